@@ -4,7 +4,8 @@ pub use Rattle.std.specs.List.{All, fold}
 pub use Rattle.std.specs.Str.{IsUtf8, bytes_eq, chars}
 pub use Rattle.std.specs.declared.alloc.AllocError.{AllocError}
 pub use Rattle.std.proofs.Math.Utf8.{encodes}
-pub use Rattle.std.proofs.lemmas.Bool.{eqb-true}
+pub use Rattle.std.proofs.lemmas.Bool.{cases_Bool, eqb-true}
+pub use Rattle.std.proofs.lemmas.Iterator.Adapters.{option_map_id}
 pub use Rattle.std.proofs.lemmas.List.{take_all}
 pub use Rattle.std.proofs.lemmas.List.Elements.{All-cons, All-head, All-nil, All-tail}
 pub use Rattle.std.proofs.lemmas.Result.{IfOk-weaker}
@@ -19,8 +20,8 @@ pub use Rattle.clap.specs.Kinds.{HasKind, IsAmong, Kinds, or_else}
 pub use Rattle.clap.specs.Lexer.{long_of, name_and_value, short_of}
 pub use Rattle.clap.specs.Simple.{Shape, app_of_fields, built, built_leaf, entered, filled, help_rule, inherited, names_of, on_top}
 pub use Rattle.clap.specs.Values.{reading_of}
-pub use Rattle.clap.specs.Walk.{Held, Names, Row, Rule, Text, Walk, arg_by_long, arg_by_short, finished, first_of, idle, nothing_held, reacted, settled, subcommand_met, walked}
-pub use Rattle.clap.specs.Words.{AddsSubcommand, App, HasMatchesOf, app_of, fault_of, found_of, is_simple, is_simple_and_free, subcommand_of, subcommand_rows_of, with_subcommand}
+pub use Rattle.clap.specs.Walk.{Held, Names, Row, Rule, Text, Walk, arg_by_long, arg_by_short, finished, idle, nothing_held, reacted, settled, subcommand_met, walked}
+pub use Rattle.clap.specs.Words.{AddsSubcommand, App, HasMatchesOf, app_of, fault_of, found_of, is_simple, is_simple_and_free, kind_of, subcommand_of, subcommand_rows_of, with_subcommand}
 pub use Rattle.clap.specs.declared.builder.command.Command.{Command}
 pub use Rattle.clap.specs.declared.builder.command.Command.TheViews.{out-Command as fields_of}
 pub use Rattle.clap.specs.declared.builder.value_parser.ValueParser.TheVariants.{String as AnyText}
@@ -30,3 +31,14 @@ pub use Rattle.commands.specs.Arguments.{AsksFor, alone, grammar_in, lrls, one, 
 pub use Rattle.commands.specs.CommandLines.{Asks, IsRead, is_flag, paths}
 pub use Rattle.commands.specs.declared.asked.Words.{Words}
 pub use Rattle.commands.specs.declared.asked.Words.TheVariants.{Check, Parse, Serve}
+pub use Rattle.std.proofs.lemmas.Grind.{common_steps}
+pub use Rattle.definitions.specs.declared.Symbol.{Symbol}
+pub use Rattle.commands.specs.Conflicts.{name_bytes}
+pub use Rattle.grammar.specs.Grammars.{FileGrammar}
+pub use Rattle.grammar.specs.Notes.{AreNotes, symbol_name}
+pub use Rattle.commands.specs.Reporting.{note_line, report}
+pub use Rattle.definitions.specs.declared.Unit.{Unit as Encoding}
+pub use Rattle.definitions.specs.declared.Unit.TheVariants.{Utf16}
+pub use Rattle.docs.specs.declared.doc.Outcome.{Outcome}
+pub use Rattle.docs.specs.Outcomes.{IsOutcome}
+pub use Rattle.docs.specs.Texts.{OpenDocument, fits}

@@ -1,6 +1,6 @@
 -- What clap makes of a word: each is `--`, a flag or a path, and every flag is refused.
 use Rattle.std.proofs.Common.{◌==◌, ◌≡◌, ◌∙◌, ◌⊎◌, inl, inr, ℕ, Bool, true, false, refl, sym, ap, subst, List, [], ◌∷◌, drop, Option, Some, None, codes}
-use Rattle.commands.proofs.Common.{IsUtf8, bytes_eq, chars, encodes, chars_past_char, encodes-chars, eqb-true, bytes_eq-Decides, slice_get, long_of, name_and_value, short_of, Kinds, or_else, Held, Row, Rule, Text, arg_by_long, arg_by_short, reacted, filled, help_rule, flag_word_fault, flags_fault, long_fault, react_fault, short_fault, settle_fault, is_flag}
+use Rattle.commands.proofs.Common.{cases_Bool, IsUtf8, bytes_eq, chars, encodes, chars_past_char, encodes-chars, eqb-true, bytes_eq-Decides, slice_get, long_of, name_and_value, short_of, Kinds, or_else, Held, Row, Rule, Text, arg_by_long, arg_by_short, reacted, filled, help_rule, flag_word_fault, flags_fault, long_fault, react_fault, short_fault, settle_fault, is_flag}
 use Rattle.std.specs.Char.{encode_utf8}
 
 pub no_first : (a b : Kinds) → or_else a b ≡ [] → a ≡ []
@@ -18,10 +18,6 @@ help = filled help_rule
 pub record HasHelpAlone (c : List Rule) : Type 0 where
   pub long : (name : Text) → (arg_by_long c name ≡ None) ⊎ (arg_by_long c name ≡ Some help)
   pub short : (y : ℕ) → (arg_by_short c y ≡ None) ⊎ (arg_by_short c y ≡ Some help)
-
-pub by_bool : (b : Bool) → (b ≡ true) ⊎ (b ≡ false)
-by_bool true = inl refl
-by_bool false = inr refl
 
 help_fails : (c : List Rule) (again : Bool) (h : Held) → react_fault c again help [] h ≡ [] → ⊥
 help_fails c again h e = let bad = no_second (settle_fault c again h) _ e in cc
@@ -77,13 +73,13 @@ long_kind [] e = cc
 long_kind (x ∷ r) e = (name_and_value (x ∷ r), refl)
 
 kind_at : (c d : ℕ) (r : Text) → IsUtf8 (c ∷ d ∷ r) → bytes_eq (c ∷ d ∷ r) (codes "--") ≡ false → Kind (c ∷ d ∷ r)
-kind_at c d r utf8 apart = elim (by_bool (c == 45)) [
+kind_at c d r utf8 apart = elim (cases_Bool (c == 45)) [
   | inl e ↦ hyphen (eqb-true c 45 e)
   | inr e ↦ inr (inr (e, (apart, rw e refl, rw e refl)))
 ]
   where
     second : IsUtf8 (45 ∷ d ∷ r) → bytes_eq (45 ∷ d ∷ r) (codes "--") ≡ false → Kind (45 ∷ d ∷ r)
-    second u a = elim (by_bool (d == 45)) [
+    second u a = elim (cases_Bool (d == 45)) [
       | inl e ↦ let long = long_kind r (subst (λ x. bytes_eq (45 ∷ x ∷ r) (codes "--") ≡ false) (eqb-true d 45 e) a) in
           inr (inl (refl, (a, inl (long.0, subst (λ x. long_of (45 ∷ x ∷ r) ≡ Some long.0) (sym (eqb-true d 45 e)) long.1))))
       | inr e ↦ let y = first_char d r u in inr (inl (refl, (a, inr (d, r, y.0, rw e refl, rw e refl, y.1))))
@@ -94,14 +90,14 @@ kind_at c d r utf8 apart = elim (by_bool (c == 45)) [
 
 other_kind : (word : Text) → IsUtf8 word → bytes_eq word (codes "--") ≡ false → Kind word
 other_kind [] utf8 apart = inr (inr (refl, (apart, refl, refl)))
-other_kind (c ∷ []) utf8 apart = elim (by_bool (c == 45)) [
+other_kind (c ∷ []) utf8 apart = elim (cases_Bool (c == 45)) [
   | inl e ↦ inr (inr (refl, (apart, rw e refl, rw e refl)))
   | inr e ↦ inr (inr (refl, (apart, rw e refl, rw e refl)))
 ]
 other_kind (c ∷ d ∷ r) utf8 apart = kind_at c d r utf8 apart
 
 pub kind_of : (word : Text) → IsUtf8 word → Kind word
-kind_of word utf8 = elim (by_bool (bytes_eq word (codes "--"))) [
+kind_of word utf8 = elim (cases_Bool (bytes_eq word (codes "--"))) [
   | inl e ↦ inl ((bytes_eq-Decides word (codes "--")).0 e)
   | inr e ↦ other_kind word utf8 e
 ]

@@ -1,9 +1,9 @@
 -- How clap reads the program's words: they ask for a task, or are refused.
 use Rattle.std.proofs.Common.{◌==◌, ◌≡◌, ◌∙◌, ◌⊎◌, inl, inr, Bool, true, false, refl, sym, ap, subst, List, [], ◌∷◌, drop, Some, None, is_some, codes, string_bytes, true≢false}
-use Rattle.commands.proofs.Common.{All, fold, IsUtf8, bytes_eq, All-head, All-tail, bytes_eq-Decides, Kinds, or_else, Names, Row, Text, subcommand_met, idle, Walk, finished, nothing_held, settled, walked, Shape, entered, names_of, built, check_fault, defaults_fault, entered_fault, other_fault, settle_fault, turn_fault, walk_fault, clap_on_literals, walk_stopped, stopped_fault, grammar_in, lrls, text_in, Asks, paths, Words, Check, Parse, Serve}
+use Rattle.commands.proofs.Common.{cases_Bool, All, fold, IsUtf8, bytes_eq, All-head, All-tail, bytes_eq-Decides, Kinds, or_else, Names, Row, Text, subcommand_met, idle, Walk, finished, nothing_held, settled, walked, Shape, entered, names_of, built, check_fault, defaults_fault, entered_fault, other_fault, settle_fault, turn_fault, walk_fault, clap_on_literals, walk_stopped, stopped_fault, grammar_in, lrls, text_in, Asks, paths, Words, Check, Parse, Serve}
 use Rattle.clap.specs.Simple.{subcommand_of}
 use Rattle.clap.specs.Faults.{fault_of}
-use Rattle.commands.proofs.Flags.{no_first, by_bool, help, HasHelpAlone, IsFlagWord, flag_fails, IsPath, kind_of}
+use Rattle.commands.proofs.Flags.{no_first, help, HasHelpAlone, IsFlagWord, flag_fails, IsPath, kind_of}
 use Rattle.commands.proofs.Commands.{built_one, built_two, at_none, rest_fault, rows_from, one_none, two_none}
 
 -- the program's commands, `help` among them, and its own arguments
@@ -44,34 +44,27 @@ or_none : (k : Kinds) → or_else k [] ≡ k
 or_none [] = refl
 or_none (x ∷ xs) = refl
 
-check_fault_is : (rest : List Text) → fault_of lrls (codes "lrls" ∷ codes "check" ∷ rest) ≡ rest_fault (built_one (codes "check")) (at_none false) rest
-unfolding clap_on_literals
-check_fault_is rest = enters (codes "check") rest refl refl ∙ or_none (rest_fault (built_one (codes "check")) (at_none false) rest)
+-- a line that begins with the name of a command has the faults and the rows of the words after it
+record Begins (name : Text) (command : Shape) : Type 0 where
+  fault : (rest : List Text) → fault_of lrls (codes "lrls" ∷ name ∷ rest) ≡ rest_fault command (at_none false) rest
+  found : (rest : List Text) → subcommand_of lrls (codes "lrls" ∷ name ∷ rest) ≡ Some (name, rows_from command (at_none false) rest)
 
-check_found : (rest : List Text) → subcommand_of lrls (codes "lrls" ∷ codes "check" ∷ rest) ≡ Some (codes "check", rows_from (built_one (codes "check")) (at_none false) rest)
+check_begins : Begins (codes "check") (built_one (codes "check"))
 unfolding clap_on_literals
-check_found rest = found_in (codes "check") rest refl
+check_begins = record { fault = λ rest. enters (codes "check") rest refl refl ∙ or_none _; found = λ rest. found_in (codes "check") rest refl }
 
-serve_fault_is : (rest : List Text) → fault_of lrls (codes "lrls" ∷ codes "serve" ∷ rest) ≡ rest_fault (built_one (codes "serve")) (at_none false) rest
+serve_begins : Begins (codes "serve") (built_one (codes "serve"))
 unfolding clap_on_literals
-serve_fault_is rest = enters (codes "serve") rest refl refl ∙ or_none (rest_fault (built_one (codes "serve")) (at_none false) rest)
+serve_begins = record { fault = λ rest. enters (codes "serve") rest refl refl ∙ or_none _; found = λ rest. found_in (codes "serve") rest refl }
 
-serve_found : (rest : List Text) → subcommand_of lrls (codes "lrls" ∷ codes "serve" ∷ rest) ≡ Some (codes "serve", rows_from (built_one (codes "serve")) (at_none false) rest)
+parse_begins : Begins (codes "parse") built_two
 unfolding clap_on_literals
-serve_found rest = found_in (codes "serve") rest refl
-
-parse_fault_is : (rest : List Text) → fault_of lrls (codes "lrls" ∷ codes "parse" ∷ rest) ≡ rest_fault built_two (at_none false) rest
-unfolding clap_on_literals
-parse_fault_is rest = enters (codes "parse") rest refl refl ∙ or_none (rest_fault built_two (at_none false) rest)
-
-parse_found : (rest : List Text) → subcommand_of lrls (codes "lrls" ∷ codes "parse" ∷ rest) ≡ Some (codes "parse", rows_from built_two (at_none false) rest)
-unfolding clap_on_literals
-parse_found rest = found_in (codes "parse") rest refl
+parse_begins = record { fault = λ rest. enters (codes "parse") rest refl refl ∙ or_none _; found = λ rest. found_in (codes "parse") rest refl }
 
 flags_of_top : HasHelpAlone (built lrls).top.rules
 flags_of_top = record {
-  long = λ n. elim (by_bool (bytes_eq (codes "help") n)) [ inl e ↦ inr (rw e refl) | inr e ↦ inl (rw e refl) ];
-  short = λ y. elim (by_bool (104 == y)) [ inl e ↦ inr (rw e refl) | inr e ↦ inl (rw e refl) ];
+  long = λ n. elim (cases_Bool (bytes_eq (codes "help") n)) [ inl e ↦ inr (rw e refl) | inr e ↦ inl (rw e refl) ];
+  short = λ y. elim (cases_Bool (104 == y)) [ inl e ↦ inr (rw e refl) | inr e ↦ inl (rw e refl) ];
 }
 
 -- a line that is no command's is refused
@@ -159,26 +152,19 @@ parse_asks : (rest : List Text) → ((g x : Text) → paths rest ≡ Some (g ∷
 parse_asks rest apart (Parse g x) asks = apart (string_bytes g) (string_bytes x) (ap paths (ap (drop 1) asks.1) ∙ asks.2)
 parse_asks rest apart d asks = absurd (true≢false (ap (begins_with (codes "parse")) asks.1))
 
-check_outcome : (rest : List Text) → All IsUtf8 rest → Outcome (codes "check" ∷ rest)
-check_outcome rest u = elim (one_none (codes "check") false rest u) [
-  | inl d ↦ one_path (codes "check") d.0 rest _ (inl refl) refl d.1 (check_found rest) d.3 (check_fault_is rest ∙ d.2)
-  | inr d ↦ refused (λ e. d.0 (sym (check_fault_is rest) ∙ e)) (check_asks rest d.1)
-]
-
-serve_outcome : (rest : List Text) → All IsUtf8 rest → Outcome (codes "serve" ∷ rest)
-serve_outcome rest u = elim (one_none (codes "serve") false rest u) [
-  | inl d ↦ one_path (codes "serve") d.0 rest _ (inr refl) refl d.1 (serve_found rest) d.3 (serve_fault_is rest ∙ d.2)
-  | inr d ↦ refused (λ e. d.0 (sym (serve_fault_is rest) ∙ e)) (serve_asks rest d.1)
+one_outcome : (name : Text) → (name ≡ codes "check") ⊎ (name ≡ codes "serve") → Begins name (built_one name)
+    → ((rest : List Text) → ((g : Text) → paths rest ≡ Some (g ∷ []) → ⊥) → (task : Words) → Asks (name ∷ rest) task → ⊥)
+    → (rest : List Text) → All IsUtf8 rest → Outcome (name ∷ rest)
+one_outcome name is begins asks rest u = elim (one_none name false rest u) [
+  | inl d ↦ one_path name d.0 rest _ is refl d.1 (begins.found rest) d.3 (begins.fault rest ∙ d.2)
+  | inr d ↦ refused (λ e. d.0 (sym (begins.fault rest) ∙ e)) (asks rest d.1)
 ]
 
 parse_outcome : (rest : List Text) → All IsUtf8 rest → Outcome (codes "parse" ∷ rest)
 parse_outcome rest u = elim (two_none false rest u) [
-  | inl d ↦ two_paths d.0 d.1 rest _ refl d.2 (parse_found rest) d.4 d.5 (parse_fault_is rest ∙ d.3)
-  | inr d ↦ refused (λ e. d.0 (sym (parse_fault_is rest) ∙ e)) (parse_asks rest d.1)
+  | inl d ↦ two_paths d.0.0 d.0.1 rest _ refl d.1 (parse_begins.found rest) d.3.0 d.3.1 (parse_begins.fault rest ∙ d.2)
+  | inr d ↦ refused (λ e. d.0 (sym (parse_begins.fault rest) ∙ e)) (parse_asks rest (λ g x. d.1 (g, x)))
 ]
-
-is_word : (name word : Text) → bytes_eq name word ≡ true → name ≡ word
-is_word name word e = (bytes_eq-Decides name word).0 e
 
 help_outcome : (rest : List Text) → Outcome (codes "help" ∷ rest)
 help_outcome rest = refused (line_stuck (codes "help") rest help_stuck) asks
@@ -197,14 +183,14 @@ outcome [] u = refused nothing_stuck asks
     asks (Serve g) h = let bad = h.1 in cc
 outcome (word ∷ rest) u =
     let tail = All-tail IsUtf8 word rest u in
-    elim (by_bool (bytes_eq (codes "check") word)) [
-      | inl e ↦ subst (λ v. Outcome (v ∷ rest)) (is_word _ word e) (check_outcome rest tail)
-      | inr check ↦ elim (by_bool (bytes_eq (codes "parse") word)) [
-        | inl e ↦ subst (λ v. Outcome (v ∷ rest)) (is_word _ word e) (parse_outcome rest tail)
-        | inr parse ↦ elim (by_bool (bytes_eq (codes "serve") word)) [
-          | inl e ↦ subst (λ v. Outcome (v ∷ rest)) (is_word _ word e) (serve_outcome rest tail)
-          | inr serve ↦ elim (by_bool (bytes_eq (codes "help") word)) [
-            | inl e ↦ subst (λ v. Outcome (v ∷ rest)) (is_word _ word e) (help_outcome rest)
+    elim (cases_Bool (bytes_eq (codes "check") word)) [
+      | inl e ↦ subst (λ v. Outcome (v ∷ rest)) ((bytes_eq-Decides _ word).0 e) (one_outcome (codes "check") (inl refl) check_begins check_asks rest tail)
+      | inr check ↦ elim (cases_Bool (bytes_eq (codes "parse") word)) [
+        | inl e ↦ subst (λ v. Outcome (v ∷ rest)) ((bytes_eq-Decides _ word).0 e) (parse_outcome rest tail)
+        | inr parse ↦ elim (cases_Bool (bytes_eq (codes "serve") word)) [
+          | inl e ↦ subst (λ v. Outcome (v ∷ rest)) ((bytes_eq-Decides _ word).0 e) (one_outcome (codes "serve") (inr refl) serve_begins serve_asks rest tail)
+          | inr serve ↦ elim (cases_Bool (bytes_eq (codes "help") word)) [
+            | inl e ↦ subst (λ v. Outcome (v ∷ rest)) ((bytes_eq-Decides _ word).0 e) (help_outcome rest)
             | inr help ↦
                 let apart : IsNoCommand word = record { check = check; parse = parse; serve = serve; help = help } in
                 refused (other_stuck word rest (All-head IsUtf8 word rest u) apart) (no_task word rest apart)

@@ -1,8 +1,6 @@
 -- The position of an offset past the end of a text is that of the end.
 use Rattle.definitions.proofs.Common.{◌≡◌, ℕ, ◌+◌, ◌-◌, ◌<◌, ◌≤◌, ◌⊎◌, min, Bool, true, false, not, ◌||◌, ◌==◌, List, [], ◌∷◌, length, take, prefix_len, cases_lt, le-leb, length-take, take_all, Encoding, ends_break, break_ends, line_of, line_start, line_from, units, position}
-use Rattle.std.specs.Prelude.{drop}
-use Rattle.std.proofs.Common.{arith, refl, sym, ap, inl, inr, ◌∙◌, cond}
-use Rattle.std.proofs.lemmas.List.{length-drop}
+use Rattle.std.proofs.Common.{arith, refl, sym, ap, inl, inr, ◌∙◌, cond, drop, length-drop}
 use Rattle.definitions.proofs.OffsetOfPosition.{ended, ended-cons}
 
 -- each break of a text ends in it

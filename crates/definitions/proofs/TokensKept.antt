@@ -1,7 +1,7 @@
 -- What an edit keeps are tokens of both texts: the kept ones at the start are the same in both lists, and so are those after.
 use Rattle.definitions.proofs.Common.{prefix_len, cases_lt, and_from, and_parts, le-leb, leb-true, eq-eqb, eqb-true, false≢true, append_assoc, take-take, drop_at, drop-drop, length-take, take_at, drop-take, get_or_default, fails_before_first, passes_at_first, Any-from_list_any, list_any_at, edit, Edit, Expression, Token, IsToken, AreTokens, placed, boundaries, kept_before, is_rejoined, rejoin}
 use Rattle.std.proofs.Common.{arith, refl, sym, ap, subst, inl, inr, ◌∙◌, cond, length-append, length-drop, ◌≡◌, ℕ, zero, suc, ◌+◌, ◌-◌, ◌<◌, ◌≤◌, ◌⊎◌, Bool, true, false, ◌==◌, nat_le, List, [], ◌∷◌, ◌++◌, length, take, drop, slice_index_or}
-use Rattle.definitions.proofs.TokensUnique.{AreTokens-unique, IsToken-unique, IsPiece-inside}
+use Rattle.definitions.proofs.TokensUnique.{AreTokens-unique, IsToken-unique, IsPiece-inside, no_token}
 use Rattle.definitions.proofs.TokensLocal.{IsToken-local, length-le-reach}
 
 before_end : (i m n : ℕ) → i < m → m ≡ n + 1 → i ≤ n
@@ -60,9 +60,7 @@ prefix_from rules r u o a (x ∷ xs) ys l same p q =
         let reach : o + x.reach ≤ a = leb-true _ _ e in
         let near : take x.reach r ≡ take x.reach u = sym (take-take x.reach (a - o) r (omega arith)) ∙ ap (take x.reach) same ∙ take-take x.reach (a - o) u (omega arith) in
         let here : IsToken rules u x = IsToken-local rules r u x near p.0 in
-        let inside : (1 ≤ x.length) × (x.length ≤ length u) = IsPiece-inside rules u x.kind x.length here.piece in
-        let none : length u ≡ 0 = ap length z in
-        absurd (omega (arith, inside.0, inside.1))
+        absurd (no_token rules u x here (ap length z))
     go true e (y ∷ ws) z later =
         let reach : o + x.reach ≤ a = leb-true _ _ e in
         let near : take x.reach r ≡ take x.reach u = sym (take-take x.reach (a - o) r (omega arith)) ∙ ap (take x.reach) same ∙ take-take x.reach (a - o) u (omega arith) in

@@ -3,7 +3,7 @@
 use Rattle.definitions.proofs.Common.{prefix_len, cases_lt, leb-true, false≢true, append_assoc, take-take, drop-take, drop-drop, take_at, length-take, sum_by-cons, passes_at_first, Edit, Expression, edit, Token, Placed, IsToken, AreTokens, Leads, placed, boundaries, kept_before, is_rejoined, rejoin}
 use Rattle.std.proofs.Common.{arith, refl, sym, ap, subst, inl, inr, ◌∙◌, cond, length-drop, ◌≡◌, ℕ, zero, suc, ◌+◌, ◌-◌, ◌<◌, ◌≤◌, Bool, true, false, nat_le, List, [], ◌∷◌, ◌++◌, length, take, drop, sum_by, slice_get, slice_index_or, IsSomeAnd}
 use Rattle.definitions.proofs.TokensLocal.{IsToken-local, length-le-reach}
-use Rattle.definitions.proofs.TokensUnique.{IsToken-unique, IsPiece-inside}
+use Rattle.definitions.proofs.TokensUnique.{IsToken-unique, IsPiece-inside, no_token}
 
 -- their characters
 abbrev pub chars : List Token → ℕ
@@ -31,12 +31,6 @@ leads_join rules u (x ∷ xs) ys h r =
     let whole : drop (chars (x ∷ xs)) u ≡ drop (chars xs) (drop x.length u) = ap (λ n. drop n u) (chars-cons x xs) ∙ sym (drop-drop (chars xs) x.length u) in
     (h.0, leads_join rules (drop x.length u) xs ys h.1 (subst (λ v. Leads rules v ys) whole r))
 
--- the first tokens of a text lead it
-pub tokens_lead : (rules : List Expression) (u : List ℕ) (n : ℕ) (xs : List Token) → AreTokens rules u xs → Leads rules u (take n xs)
-tokens_lead rules u zero xs h = tt
-tokens_lead rules u (suc n) [] h = tt
-tokens_lead rules u (suc n) (x ∷ xs) h = (h.0, tokens_lead rules (drop x.length u) n xs h.1)
-
 -- All tokens of a text that is led by xs are xs and those of what is left.
 pub record GoOn (rules : List Expression) (u : List ℕ) (xs new : List Token) : Type 0 where
   pub rest : List Token
@@ -45,10 +39,7 @@ pub record GoOn (rules : List Expression) (u : List ℕ) (xs new : List Token) :
 
 pub leads_split : (rules : List Expression) (u : List ℕ) (xs new : List Token) → Leads rules u xs → AreTokens rules u new → GoOn rules u xs new
 leads_split rules u [] new h p = record { rest = new; joined = refl; tokens = p }
-leads_split rules u (x ∷ xs) [] h p =
-    let inside : (1 ≤ x.length) × (x.length ≤ length u) = IsPiece-inside rules u x.kind x.length h.0.piece in
-    let none : length u ≡ 0 = ap length p in
-    absurd (omega arith)
+leads_split rules u (x ∷ xs) [] h p = absurd (no_token rules u x h.0 (ap length p))
 leads_split rules u (x ∷ xs) (y ∷ new) h p =
     let same : y ≡ x = IsToken-unique rules u y x p.0 h.0 in
     let tail : AreTokens rules (drop x.length u) new = subst (λ z. AreTokens rules (drop z.length u) new) same p.1 in

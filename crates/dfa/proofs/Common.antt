@@ -4,7 +4,7 @@ pub use Rattle.std.specs.List.{AllByRecursion, concat, list_any}
 pub use Rattle.std.specs.Str.{bytes_eq}
 pub use native.Mathlib.Numerals.{unary_clauses}
 pub use Rattle.std.proofs.Math.Nat.{mul_comm}
-pub use Rattle.std.proofs.lemmas.Bool.{cases_lt, eq-eqb, eqb-true, false≢true, or_cases, or_left, or_parts, or_right}
+pub use Rattle.std.proofs.lemmas.Bool.{cases_lt, eq-eqb, eqb-true, false_from_ne_true, false≢true, or_cases, or_left, or_parts, or_right}
 pub use Rattle.std.proofs.lemmas.Bool.Decides.{eqb_tells, nat_tests}
 pub use Rattle.std.proofs.lemmas.Fn.{always_returns_same}
 pub use Rattle.std.proofs.lemmas.Grind.{common_steps}

@@ -13,7 +13,7 @@ Every S n marks o u = (q : ℕ) → q < n → S q u → mark marks (o + q) ≡ t
 abbrev pub InRest : (List ℕ → Type 0) → List ℕ → ℕ → List ℕ → Type 0
 InRest K xs q u = Then K (InLiteral xs q) u
 
-mark_moved : (marks : List Bool) (m n : ℕ) → m ≡ n → mark marks m ≡ true → mark marks n ≡ true
+pub mark_moved : (marks : List Bool) (m n : ℕ) → m ≡ n → mark marks m ≡ true → mark marks n ≡ true
 mark_moved marks m n e h = subst (λ (k : ℕ). mark marks k ≡ true) e h
 
 stands_moved : (K : List ℕ → Type 0) (b : Expression) (m n : ℕ) (u : List ℕ) → m ≡ n → Stands K b m u → Stands K b n u

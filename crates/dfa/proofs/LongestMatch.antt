@@ -1,7 +1,6 @@
 -- Steps of a search for the longest match.
 use Rattle.dfa.proofs.Common.{min, MatchOption, cases_lt, take_more, length-take, get_or-take, get_or-drop, drop-drop, All-push, All-get_or, Expression, IsText, IsCharacter, RuleMatches, IsRulePrefix, IsPiece, IsReach, IsRulePrefix-take, Table, next_state, follower, state_from, state_after, IsFirst, IsAutomaton, Stays, kind_of, Match, IsBest, IsNoted, IsWithinReach}
-use Rattle.std.specs.Prelude.{◌≡◌, ℕ, zero, suc, ◌+◌, ◌<◌, ◌≤◌, ◌⊎◌, All, List, [], ◌∷◌, ◌++◌, length, take, drop, slice_index_or, Option, Some, None}
-use Rattle.std.proofs.Common.{arith, refl, sym, ap, subst, inl, inr, ◌∙◌, length-drop}
+use Rattle.std.proofs.Common.{arith, refl, sym, ap, subst, inl, inr, ◌∙◌, length-drop, ◌≡◌, ℕ, zero, suc, ◌+◌, ◌<◌, ◌≤◌, ◌⊎◌, All, List, [], ◌∷◌, ◌++◌, length, take, drop, slice_index_or, Option, Some, None}
 
 state_from-more : (table : Table) (o : Option ℕ) (u : List ℕ) (c : ℕ) → state_from table o (u ++ c ∷ []) ≡ next_state table (state_from table o u) c
 state_from-more table o [] c = refl
@@ -146,8 +145,7 @@ module _ (rules : List Expression) (table : Table) (a : IsAutomaton rules table)
       let e : n + k + 1 ≡ n + suc k = omega arith in
       subst (λ (m : ℕ). IsText (take m t) × (state_after table (take m t) ≡ Some s)) e (
         more_text rules table a t (n + k) s (slice_index_or t (n + k) 0) old.0 one.0 lt refl old.1,
-        more_state rules table a t
-            (n + k) s (slice_index_or t (n + k) 0) old.0 one.0 lt refl old.1 (Some s) one.1,
+        more_state rules table a t (n + k) s (slice_index_or t (n + k) 0) old.0 one.0 lt refl old.1 (Some s) one.1,
       )
 
   pub kept_prefixes : (k : ℕ) → Keeps table t s n k → ((m : ℕ) → 1 ≤ m → m ≤ n → IsRulePrefix rules (take m t)) → (m : ℕ) → 1 ≤ m → m ≤ n + k → IsRulePrefix rules (take m t)

@@ -1,6 +1,6 @@
 -- The marks of a set, and whether some of them lie in a part of the positions.
 use Rattle.std.proofs.Common.{◌≡◌, ℕ, zero, suc, ◌+◌, ◌<◌, ◌≤◌, ◌⊎◌, Bool, true, false, List, [], ◌∷◌, length, filter, get_or, nat_lt, Result, Ok, Err, refl, sym, ap, ◌∙◌, subst, inl, inr, arith}
-use Rattle.dfa.proofs.Common.{cases_lt, false≢true, or_cases, or_left, or_right, nat_tests, MatchResult, is_ok, mark, marked, marks_of, unmarked, Among, AreBlank, AreMarksOf, Rises, IsAscending, any_mark, listed, kept}
+use Rattle.dfa.proofs.Common.{cases_lt, false≢true, or_cases, or_left, or_right, nat_tests, MatchResult, is_ok, mark, marked, marks_of, unmarked, Among, AreBlank, AreMarksOf, Rises, IsAscending, any_mark, listed, kept, false_from_ne_true}
 use Rattle.dfa.proofs.Sets.{among_filter, among_from_at, at_from_among, filter_among, filter_rises, rises_least, rises_lower, same_set}
 
 marked_here : (p : ℕ) (marks : List Bool) → mark (marked p marks) p ≡ true
@@ -92,10 +92,6 @@ meets_next set o n i up lt below above = elim (cases_lt (get_or set i 0) (o + n)
 pub meets_none : (set : List ℕ) (o n i : ℕ) → length set ≤ i → ((k : ℕ) → k < i → get_or set k 0 < o) → nat_lt i (length set) ≡ any_mark (marks_of set) o n
 meets_none set o n i all below = not_less i (length set) all ∙ sym (not_met set o n i below (λ k le l. absurd (omega (arith, le, l, all))))
 
-not_true : (b : Bool) → (b ≡ true → ⊥) → b ≡ false
-not_true true h = absurd (h refl)
-not_true false h = refl
-
 abbrev pub IsFound : List ℕ → ℕ → Result ℕ ℕ → Type 0
 IsFound set p r = MatchResult r (λ i. (i < length set) × (get_or set i 0 ≡ p))
     (λ i. (i ≤ length set) × ((k : ℕ) → k < i → get_or set k 0 < p) × ((k : ℕ) → i ≤ k → k < length set → p < get_or set k 0))
@@ -111,11 +107,11 @@ found_marked set p (Err i) f =
       | inr x ↦ let a = f.2 t.0 x t.1 in omega (arith, a, t.2)
     ]
     in
-    sym (not_true (mark (marks_of set) p) none)
+    sym (false_from_ne_true (mark (marks_of set) p) none)
 
 same_bits : (x y : Bool) → (x ≡ true → y ≡ true) → (y ≡ true → x ≡ true) → x ≡ y
 same_bits true y f g = sym (f refl)
-same_bits false y f g = sym (not_true y (λ h. let e = g h in cc))
+same_bits false y f g = sym (false_from_ne_true y (λ h. let e = g h in cc))
 
 -- positions are listed where they are marked
 listed_rise : (o : ℕ) (marks : List Bool) → Rises o (listed o marks)
@@ -204,7 +200,7 @@ written_marks set value old new w v b = record {
 pub written_blank : (set : List ℕ) (value : Bool) (old new : List Bool) → Written set value old new (length set) → value ≡ false → AreMarksOf set old → AreBlank new
 written_blank set value old new w v a p = elim (among_cases set p) [
   | inl x ↦ written_there set value old new p w x ∙ v
-  | inr x ↦ written_other set value old new p w x ∙ not_true (mark old p) (λ h. x (a.only p h))
+  | inr x ↦ written_other set value old new p w x ∙ false_from_ne_true (mark old p) (λ h. x (a.only p h))
 ]
 
 -- what is listed lies below the end of the marks

@@ -2,7 +2,7 @@
 use Rattle.std.proofs.Common.{◌≡◌, ℕ, zero, suc, ◌+◌, ◌-◌, ◌<◌, ◌≤◌, ◌⊎◌, Bool, true, false, List, [], ◌∷◌, ◌++◌, length, Option, Some, None, refl, sym, ap, ◌∙◌, subst, inl, inr, arith, add-one, if◌then◌else◌, slice_get, IsSomeAnd}
 use Rattle.dfa.proofs.Common.{false≢true, Expression, Matches, IsPrefix, IsCharacter, RuleMatches, IsRulePrefix, positions, CanStandAt, StandsAt, mark, ends, next, all_next, first_end, AllMade, IsSetOf, AreMarksOf, IsFirst}
 use Rattle.dfa.proofs.LastPositions.{Stands, Is, below, nonempty}
-use Rattle.dfa.proofs.Ends.{Only, Every, ends_sound, ends_complete}
+use Rattle.dfa.proofs.Ends.{Only, Every, ends_sound, ends_complete, mark_moved}
 use Rattle.dfa.proofs.Steps.{Holds, holds_below, length-next, mark_left, mark_right, step_sound, step_complete}
 use Rattle.dfa.proofs.PrefixEnds.{prefix_of, stand_of}
 
@@ -10,9 +10,6 @@ use Rattle.dfa.proofs.PrefixEnds.{prefix_of, stand_of}
 pub record AreMarks (rules : List Expression) (marks : List Bool) (o : ℕ) (u : List ℕ) : Type 0 where
   pub only : (p : ℕ) → mark marks (o + p) ≡ true → StandsAt rules p u
   pub every : (p : ℕ) → StandsAt rules p u → mark marks (o + p) ≡ true
-
-mark_at : (marks : List Bool) (m n : ℕ) → m ≡ n → mark marks m ≡ true → mark marks n ≡ true
-mark_at marks m n e h = subst (λ (k : ℕ). mark marks k ≡ true) e h
 
 stands_at : (rules : List Expression) (m n : ℕ) (u : List ℕ) → m ≡ n → StandsAt rules m u → StandsAt rules n u
 stands_at rules m n u e h = subst (λ (k : ℕ). StandsAt rules k u) e h
@@ -35,11 +32,11 @@ module _ (e : Expression) (es : List Expression) (marks : List Bool) (o : ℕ) (
 
   pub rest_marks : AreMarks es marks (o + positions e) u
   rest_marks = record {
-    only = λ p m. elim (a.only (positions e + p) (mark_at marks (o + positions e + p) (o + (positions e + p)) (omega arith) m)) [
+    only = λ p m. elim (a.only (positions e + p) (mark_moved marks (o + positions e + p) (o + (positions e + p)) (omega arith) m)) [
       | inl s ↦ absurd (omega (arith, below e (positions e + p) u s))
       | inr s ↦ stands_at es (positions e + p - positions e) p u (omega arith) s.1
     ];
-    every = λ p s. mark_at marks (o + (positions e + p)) (o + positions e + p) (omega arith)
+    every = λ p s. mark_moved marks (o + (positions e + p)) (o + positions e + p) (omega arith)
         (a.every (positions e + p) (inr (omega arith, stands_at es p (positions e + p - positions e) u (omega arith) s)));
   }
 
@@ -138,8 +135,8 @@ rules_nonempty (e ∷ es) p u (inr s) = rules_nonempty es (p - positions e) u s.
 -- sets and their marks
 pub marks_of_set : (rules : List Expression) (u set : _) (marks : List Bool) → IsSetOf rules u set → AreMarksOf set marks → AreMarks rules marks 0 u
 marks_of_set rules u set marks s m = record {
-  only = λ p h. s.only p (m.only p (mark_at marks (0 + p) p (omega arith) h));
-  every = λ p h. mark_at marks p (0 + p) (omega arith) (m.every p (s.every p h));
+  only = λ p h. s.only p (m.only p (mark_moved marks (0 + p) p (omega arith) h));
+  every = λ p h. mark_moved marks p (0 + p) (omega arith) (m.every p (s.every p h));
 }
 
 pub accepts_first : (rules : List Expression) (u set : List ℕ) (marks : List Bool) → IsSetOf rules u set → AreMarksOf set marks → 1 ≤ length u → IsFirst rules u (first_end marks 0 0 rules)

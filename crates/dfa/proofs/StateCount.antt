@@ -1,7 +1,6 @@
 -- The number of states: texts with different sets of positions have different states.
-use Rattle.std.proofs.Common.{◌≡◌, ℕ, zero, suc, ◌+◌, ◌-◌, Option, ◌<◌, ◌≤◌, ◌⊎◌, List, [], ◌∷◌, ◌++◌, length, slice_index_or, get_or, refl, sym, ap, ◌∙◌, subst, inl, inr, arith, add-one}
+use Rattle.std.proofs.Common.{◌≡◌, ℕ, zero, suc, ◌+◌, ◌-◌, Option, ◌<◌, ◌≤◌, ◌⊎◌, List, [], ◌∷◌, ◌++◌, length, slice_index_or, get_or, refl, sym, ap, ◌∙◌, subst, inl, inr, arith, add-one, All}
 use Rattle.dfa.proofs.Common.{AllPairs, cases_lt, length-append, get_or_default, get_or_append_left, get_or-append_right, All-push, all_pairs_push, Into, OneToOne, pigeonhole, Expression, StandsAt, HasPosition, HaveSamePositions, HasMoreStatesThan, AllMade, IsSetOf, table_of, state_after, AreStates, AreRows}
-use Rattle.std.specs.Prelude.{All}
 use Rattle.dfa.proofs.CompleteTable.{some_member, shows, at_state, same_positions}
 use Rattle.dfa.proofs.Successors.{set_unique}
 

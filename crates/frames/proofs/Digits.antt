@@ -1,16 +1,12 @@
 -- The number that some digits write.
-use Rattle.std.proofs.Common.{◌≡◌, ◌-◌, ◌<◌, ◌≤◌, ◌^◌, ◌&&◌, ◌==◌, ℕ, Bool, true, false, not, List, [], ◌∷◌, length, take, arith, refl, nat_le}
-use Rattle.frames.proofs.Common.{list_all, digits_value, AllDigits, is_ascii_digit, digit_value, digits_value-lt, digits_value-take-le, leb-true, pow-le-pow_right, common_steps, is_number}
-
--- of two tests both hold
-pub both : (a b : Bool) → (a && b) ≡ true → (a ≡ true) × (b ≡ true)
-both a b h = elim a as (λ v. (v && b) ≡ true → (v ≡ true) × (b ≡ true)) [ true ↦ λ h. (refl, h) | false ↦ λ h. cc ] h
+use Rattle.std.proofs.Common.{◌≡◌, ◌-◌, ◌<◌, ◌≤◌, ◌^◌, ◌&&◌, ◌==◌, ℕ, Bool, true, not, List, [], ◌∷◌, length, take, arith, nat_le}
+use Rattle.frames.proofs.Common.{list_all, digits_value, AllDigits, is_ascii_digit, digit_value, digits_value-lt, digits_value-take-le, leb-true, pow-le-pow_right, common_steps, is_number, and_parts}
 
 both_of_three : (a b c : Bool) → (a && b && c) ≡ true → (b ≡ true) × (c ≡ true)
-both_of_three a b c h = let p = both (a && b) c h in ((both a b p.0).1, p.1)
+both_of_three a b c h = let p = and_parts (a && b) c h in ((and_parts a b p.0).1, p.1)
 
 digit_range : (c : ℕ) → is_ascii_digit c ≡ true → (48 ≤ c) × (c ≤ 57)
-digit_range c h = let b = both (nat_le 48 c) (nat_le c 57) h in (leb-true 48 c b.0, leb-true c 57 b.1)
+digit_range c h = let b = and_parts (nat_le 48 c) (nat_le c 57) h in (leb-true 48 c b.0, leb-true c 57 b.1)
 
 pub digit_is : (c : ℕ) → 48 ≤ c → c ≤ 57 → digit_value c ≡ c - 48
 digit_is c low high = grind (arith, common_steps)
@@ -20,7 +16,7 @@ digit_below c h = let r = digit_range c h in let e = digit_is c r.0 r.1 in omega
 
 pub all_digits : (cs : List ℕ) → list_all is_ascii_digit cs ≡ true → AllDigits 10 cs
 all_digits [] h = tt
-all_digits (c ∷ cs) h = let b = both (is_ascii_digit c) (list_all is_ascii_digit cs) h in (digit_below c b.0, all_digits cs b.1)
+all_digits (c ∷ cs) h = let b = and_parts (is_ascii_digit c) (list_all is_ascii_digit cs) h in (digit_below c b.0, all_digits cs b.1)
 
 -- one to eight digits
 pub number_parts : (cs : List ℕ) → is_number cs ≡ true → (length cs ≤ 8) × AllDigits 10 cs

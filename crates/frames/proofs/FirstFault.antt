@@ -1,6 +1,6 @@
 -- What field lines give: the first faulty one decides, or else the one `Content-Length`.
 use Rattle.std.proofs.Common.{◌≡◌, ◌||◌, ◌-◌, length, take, arith, ℕ, zero, suc, Bool, true, false, List, [], ◌∷◌, ◌++◌, refl, ap, sym, subst, ◌∙◌, inl, inr, ◌⊎◌, Option, Some, None, is_some, cond, Result, Ok, Err, Any, ◌↔◌, option_and_then}
-use Rattle.frames.proofs.Common.{ok_or, option_or, option_map_or, or_assoc, or-false, FrameFault, NoLength, SecondLength, BadField, is_content_length, length_value, field_of, field_length, field_fault, line_fault, line_length, lines_of, lines_length, has_length, HaveLength, IsWhole, IsHeaderLength, header_length}
+use Rattle.frames.proofs.Common.{ok_or, option_or, option_map_or, or_assoc, or-false, FrameFault, NoLength, SecondLength, BadField, is_content_length, length_value, field_of, field_length, field_fault, line_fault, line_length, lines_of, lines_length, has_length, HaveLength, IsWhole, IsHeaderLength, header_length, or_parts}
 use Rattle.frames.proofs.FieldLines.{has_field_lines, field_lines_are}
 
 -- no line is faulty, by whether a length was given before them
@@ -113,10 +113,6 @@ faultless_on : (given now : Option ℕ) (line : List ℕ) (lines : List (List �
     → option_or given (line_length line) ≡ now → lines_length given (line ∷ lines) ≡ lines_length now lines
 faultless_on given now line lines h e = ap (λ o. option_map_or (λ f. Err f) o (lines_length (option_or given (line_length line)) lines)) h ∙ ap (λ t. lines_length t lines) e
 
-neither : (a b : Bool) → (a || b) ≡ false → (a ≡ false) × (b ≡ false)
-neither true b h = cc
-neither false b h = (refl, h)
-
 or_none : (given new : Option ℕ) → is_some new ≡ false → option_or given new ≡ given
 or_none None None h = refl
 or_none None (Some n) h = cc
@@ -126,7 +122,7 @@ or_none (Some m) new h = refl
 no_length : (given : Option ℕ) (lines : List (List ℕ)) → AreFaultlessAfter (is_some given) lines → has_length lines ≡ false → lines_length given lines ≡ ok_or given NoLength
 no_length given [] faultless h = refl
 no_length given (line ∷ lines) faultless h =
-    let none = neither (is_some (line_length line)) (has_length lines) h in
+    let none = or_parts (is_some (line_length line)) (has_length lines) h in
     let same = or_none given (line_length line) none.0 in
     let P : Bool → Type 0 = λ t. AreFaultlessAfter t lines in
     let rest = subst P (sym (shown_or given (line_length line)) ∙ ap is_some same) (faultless_tail (is_some given) line lines faultless) in

@@ -4,7 +4,8 @@ pub use Rattle.std.specs.Cmp.Lexicographic.{pointwise}
 pub use Rattle.std.specs.List.{cons_option, enumerate_from, filter_map, flat_map, fold, list_all, list_any, prefix_len, sum_by}
 pub use Rattle.std.specs.Str.{bytes_eq}
 pub use Rattle.std.specs.Str.Lines.{lines}
-pub use Rattle.std.proofs.lemmas.Bool.{cases_lt}
+pub use Rattle.std.proofs.Math.Bool.{or-true}
+pub use Rattle.std.proofs.lemmas.Bool.{and_from, and_parts, both_ways, cases_lt, not-false, or_cases, or_left, or_parts, or_right}
 pub use Rattle.std.proofs.lemmas.Bool.Decides.{nat_tests}
 pub use Rattle.std.proofs.lemmas.Grind.{common_steps, get_or-set_at}
 pub use Rattle.std.proofs.lemmas.Iterator.{YieldsList-from_slice}
@@ -38,7 +39,7 @@ pub use Rattle.grammar_file.proofs.OneMoreItem.{push_at}
 pub use Rattle.grammar_file.proofs.Splits.{length-texts, productions_more, said_split}
 pub use Rattle.grammar_file.proofs.TestedItems.{list_any-map}
 pub use Rattle.grammar_file.specs.Causes.{Reports}
-pub use Rattle.grammar_file.specs.Contents.{ProductionLine, RuleLine, as_production, as_rule, as_start, defined, defined_after, defines, is_among, nonterminals, number_of, productions, starts, with_name}
+pub use Rattle.grammar_file.specs.Contents.{ProductionLine, RuleLine, as_production, as_rule, as_start, defined, defined_after, defines, is_among, nonterminals, number_of, productions, rules, starts, with_name}
 pub use Rattle.grammar_file.specs.Faults.{AreFaultless, Cause, DefinedTwice, HasPattern, HasPatternFault, HaveReferents, IsFaultless, IsFileFault, IsLineFault, IsWhole, NotANonterminal, Unproductive, cause_if, early_fault, first_line, has_production, has_rule, is_production, is_skip_rule, line, no_start, or_else, reference, reference_fault, reserved, right_fault, symbol_fault, too_large}
 pub use Rattle.grammar_file.specs.Kept.{AreFew, AreNames, ArePatterns, IsWrittenOut, lines_view, rule_line, statement_of, with_left, with_rule}
 pub use Rattle.grammar_file.specs.WrittenOut.{added, marked, right_sides, written_out}

@@ -80,8 +80,7 @@ module _ (f : FileGrammar) (parts : Parts) (ps : List Production') (sound : IsGr
     patterns = f.patterns;
     skips = parts.skips.items;
     nonterminals = parts.nonterminals.items;
-    folds =
-        parts.folds.items;
+    folds = parts.folds.items;
     grammar = record { start = parts.start; rules = length parts.names.items; productions = ps };
     defined = f.defined;
   }
@@ -95,8 +94,7 @@ module _ (f : FileGrammar) (parts : Parts) (ps : List Production') (sound : IsGr
         skips = has.skips i;
         nonterminals = has.nonterminals i;
         folds = has.folds i;
-        grammar =
-            record { start = has.start i; rules = rules i; productions = same i };
+        grammar = record { start = has.start i; rules = rules i; productions = same i };
         defined = f.defined;
       }
 

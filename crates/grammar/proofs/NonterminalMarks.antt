@@ -1,6 +1,6 @@
 -- What marks at nonterminals mean.
 use Rattle.std.proofs.Common.{◌≡◌, ◌≢◌, ℕ, ◌+◌, ◌<◌, Bool, true, false, ◌&&◌, List, [], ◌∷◌, ◌++◌, refl, ap, sym, ◌∙◌, length, take, get_or, set, arith, subst, inl, inr, ◌⊎◌, not, slice_get, slice_index_or}
-use Rattle.grammar.proofs.Common.{sum_by, take_more, get_or-set_other, sum_by-set, nat_tests, Token, Invalid, Symbol, Terminal, Nonterminal, Grammar, Tree, Forest, Leaf, Branch, Nil, Cons, IsTree, AreTrees, IsProductive, is_marked, are_marked, is_ready, IsClosed, IsNext, AreBelow, AreSound, AreComplete, IsFirstUnmarked, IsUnproductiveIn, push_at}
+use Rattle.grammar.proofs.Common.{sum_by, take_more, get_or-set_other, sum_by-set, nat_tests, Token, Invalid, Symbol, Terminal, Nonterminal, Grammar, Tree, Forest, Leaf, Branch, Nil, Cons, IsTree, AreTrees, IsProductive, is_marked, are_marked, is_ready, IsClosed, IsNext, AreBelow, AreSound, AreComplete, IsFirstUnmarked, IsUnproductiveIn, push_at, and_parts}
 use Rattle.definitions.specs.Trees.{Production}
 
 -- how many have no mark
@@ -11,14 +11,6 @@ weight false = 1
 abbrev pub unmarked : List Bool → ℕ
 unmarked marks = sum_by weight marks
 
-pub and-left : (a b : Bool) → (a && b) ≡ true → a ≡ true
-and-left true b h = refl
-and-left false b h = absurd (cc)
-
-pub and-right : (a b : Bool) → (a && b) ≡ true → b ≡ true
-and-right true b h = h
-and-right false b h = absurd (cc)
-
 -- a forest over productive symbols
 forest_over : (ps : List Production) (marks : List Bool) (g : Grammar) (right : List Symbol) → AreSound ps marks
     → g.productions ≡ ps → are_marked marks right ≡ true → (ts : Forest) × AreTrees g ts right
@@ -27,8 +19,8 @@ forest_over ps marks g (Terminal k ∷ right) sound same marked =
     let rest = forest_over ps marks g right sound same marked in
     (Cons (Leaf (Token k)) rest.0, (refl, rest.1))
 forest_over ps marks g (Nonterminal n ∷ right) sound same marked =
-    let rest = forest_over ps marks g right sound same (and-right (slice_index_or marks n false) (are_marked marks right) marked) in
-    let first = sound g n same (and-left (slice_index_or marks n false) (are_marked marks right) marked) in
+    let rest = forest_over ps marks g right sound same (and_parts (slice_index_or marks n false) (are_marked marks right) marked).1 in
+    let first = sound g n same (and_parts (slice_index_or marks n false) (are_marked marks right) marked).0 in
     (Cons first.0 rest.0, (first.1, rest.1))
 
 -- a nonterminal with a production over marked symbols is productive

@@ -1,9 +1,8 @@
 -- Rules that are used, and what is noted of a list of symbols.
 use Rattle.std.proofs.Common.{◌≡◌, ◌↔◌, ℕ, suc, ◌+◌, ◌<◌, ◌==◌, Bool, true, false, ◌&&◌, ◌||◌, List, [], ◌∷◌, ◌++◌, refl, ap, sym, ◌∙◌, length, take, get_or, arith, subst, Some, slice_get, slice_index_or}
-use Rattle.grammar.proofs.Common.{list_any, nat_tests, take_more, list_any-append, Symbol, Terminal, Nonterminal, Grammar, IsUsed, The_start, On_right, FileGrammar, AreNotes, none, noted_symbol, skipped, used, is_skip, is_rule, AreUsed}
+use Rattle.grammar.proofs.Common.{list_any, nat_tests, take_more, list_any-append, Symbol, Terminal, Nonterminal, Grammar, IsUsed, The_start, On_right, FileGrammar, AreNotes, none, noted_symbol, skipped, used, is_skip, is_rule, AreUsed, and_from, and_parts, or_right}
 use Rattle.definitions.specs.Trees.{Production}
 use Rattle.grammar.specs.Notes.{has_rule}
-use Rattle.grammar.proofs.NonterminalMarks.{and-left, and-right}
 use Rattle.grammar.proofs.Numbered.{any_at}
 use Rattle.grammar.proofs.UsedMarks.{used_right}
 
@@ -34,17 +33,9 @@ rule_is : (k : ℕ) (s : Symbol) → is_rule k s ≡ true → s ≡ Terminal k
 rule_is k (Terminal j) h = ap Terminal (equal j k h)
 rule_is k (Nonterminal n) h = cc
 
-or_true : (a b : Bool) → b ≡ true → (a || b) ≡ true
-or_true true b h = refl
-or_true false b h = h
-
 stands : (k : ℕ) (before after : List Symbol) → has_rule k (before ++ (Terminal k ∷ after)) ≡ true
 stands k before after =
-    list_any-append (is_rule k) before (Terminal k ∷ after) ∙ or_true (has_rule k before) (has_rule k (Terminal k ∷ after)) (ap (λ b. b || has_rule k after) (same_number k))
-
-both_true : (a b : Bool) → a ≡ true → b ≡ true → (a && b) ≡ true
-both_true true b h e = e
-both_true false b h e = cc
+    list_any-append (is_rule k) before (Terminal k ∷ after) ∙ or_right (has_rule k before) (has_rule k (Terminal k ∷ after)) (ap (λ b. b || has_rule k after) (same_number k))
 
 abbrev pub uses : ℕ → List Bool → Production → Bool
 uses k marks x = slice_index_or marks x.left false && has_rule k x.right
@@ -56,14 +47,14 @@ used_by g ps marks k same all s (On_right p n before after u has) e =
     let left : slice_index_or marks n false ≡ true = all.all g n refl same u in
     let there : slice_get ps p ≡ Some (record { left = n; right = before ++ (s ∷ after) }) = ap (λ (qs : List Production). slice_get qs p) (sym same) ∙ has in
     let right : has_rule k (before ++ (s ∷ after)) ≡ true = ap (λ t. has_rule k (before ++ (t ∷ after))) e ∙ stands k before after in
-    any_at (uses k marks) ps p (record { left = n; right = before ++ (s ∷ after) }) there (both_true (slice_index_or marks n false) (has_rule k (before ++ (s ∷ after))) left right)
+    any_at (uses k marks) ps p (record { left = n; right = before ++ (s ∷ after) }) there (and_from (slice_index_or marks n false) (has_rule k (before ++ (s ∷ after))) left right)
 
 pub rule_used : (g : Grammar) (ps : List Production) (marks : List Bool) (k : ℕ) → g.productions ≡ ps → AreUsed g.start ps marks → (list_any (uses k marks) ps ≡ true) ↔ IsUsed g (Terminal k)
 rule_used g ps marks k same all = (
   (λ h.
       let x = passing (uses k marks) ps h in
-      let y = passing (is_rule k) x.item.right (and-right (slice_index_or marks x.item.left false) (has_rule k x.item.right) x.passes) in
-      let left : IsUsed g (Nonterminal x.item.left) = all.only g x.item.left refl same (and-left (slice_index_or marks x.item.left false) (has_rule k x.item.right) x.passes) in
+      let y = passing (is_rule k) x.item.right (and_parts (slice_index_or marks x.item.left false) (has_rule k x.item.right) x.passes).1 in
+      let left : IsUsed g (Nonterminal x.item.left) = all.only g x.item.left refl same (and_parts (slice_index_or marks x.item.left false) (has_rule k x.item.right) x.passes).0 in
       used_right g x.place y.place x.item (Terminal k) (ap (λ (qs : List Production). slice_get qs x.place) same ∙ x.there) (y.there ∙ ap Some (rule_is k y.item y.passes)) left),
   (λ u. used_by g ps marks k same all (Terminal k) u refl),
 )

@@ -1,7 +1,6 @@
 -- The numbers of names, and that different names and productions have different ones.
-use Rattle.std.proofs.Common.{◌≡◌, ◌⊎◌, inl, inr, ℕ, zero, suc, ◌+◌, ◌<◌, Bool, true, false, not, ◌&&◌, ◌||◌, cond, List, [], ◌∷◌, refl, ap, sym, ◌∙◌, length, arith, subst}
-use Rattle.grammar.proofs.Common.{nat_lt, unwrap_or, Option, list_any, filter_map, cons_option, prefix_len, nat_tests, bytes_eq, pointwise, bytes_eq-Decides, slice_get_within, get_or_from_slice_get, list_any_at, cases_lt, Terminal, Nonterminal, HasDistinctProductions, Word, plain, Statement, Line, Nothing, Production, Rule, Start, Fold, Bad, ProductionLine, as_production, productions, nonterminals, is_among, number_of, rule_names, symbol_of, production_of, grammar_of, AreFaultless, early_fault, has_production, is_production, has_rule, or_else, cause_if, reserved, Cause, DefinedTwice}
-use Rattle.std.specs.Prelude.{Some, None, map, take, slice_get}
+use Rattle.std.proofs.Common.{◌≡◌, ◌⊎◌, inl, inr, ℕ, zero, suc, ◌+◌, ◌<◌, Bool, true, false, not, ◌&&◌, ◌||◌, cond, List, [], ◌∷◌, refl, ap, sym, ◌∙◌, length, arith, subst, Some, None, map, take, slice_get}
+use Rattle.grammar.proofs.Common.{nat_lt, unwrap_or, Option, list_any, filter_map, cons_option, prefix_len, nat_tests, bytes_eq, pointwise, bytes_eq-Decides, slice_get_within, get_or_from_slice_get, list_any_at, cases_lt, Terminal, Nonterminal, HasDistinctProductions, Word, plain, Statement, Line, Nothing, Production, Rule, Start, Fold, Bad, ProductionLine, as_production, productions, nonterminals, is_among, number_of, rule_names, symbol_of, production_of, grammar_of, AreFaultless, early_fault, has_production, is_production, has_rule, or_else, cause_if, reserved, Cause, DefinedTwice, or_parts}
 use Rattle.grammar.proofs.Lefts.{bytes_eq_same}
 
 pub same_bytes : (v w : Word) → bytes_eq v w ≡ true → v ≡ w
@@ -41,7 +40,7 @@ number_below w ws h = subst (λ n. n < length ws) (number_is w ws h) (place_belo
 pub number_at : (w : Word) (ws : List Word) → is_among w ws ≡ true → slice_get ws (number_of w ws) ≡ Some w
 number_at w ws h = subst (λ n. slice_get ws n ≡ Some w) (number_is w ws h) (place_at w ws h)
 
-some_same : {X : Type 0} (x y : X) → Some x ≡ Some y → x ≡ y
+pub some_same : {X : Type 0} (x y : X) → Some x ≡ Some y → x ≡ y
 some_same x y e = cc
 
 pub number_shows : (v w : Word) (ws : List Word) → is_among v ws ≡ true → is_among w ws ≡ true → number_of v ws ≡ number_of w ws → v ≡ w
@@ -127,10 +126,6 @@ pub neither : (o l : Option Cause) → or_else o l ≡ None → (o ≡ None) × 
 neither None l e = (refl, e)
 neither (Some c) l e = cc
 
-pub or_false : (a b : Bool) → (a || b) ≡ false → (a ≡ false) × (b ≡ false)
-or_false true b e = cc
-or_false false b e = (refl, e)
-
 same_words : (vs : List Word) → pointwise bytes_eq vs vs ≡ true
 same_words [] = refl
 same_words (v ∷ vs) = ap (λ b. b && pointwise bytes_eq vs vs) (bytes_eq_same v) ∙ same_words vs
@@ -155,7 +150,7 @@ earlier ss free i j s r x a b e f l =
     let early : early_fault (take j ss) (Production x.left x.right) ≡ None = subst (λ y. early_fault (take j ss) y ≡ None) f (free j r b).early in
     let both : (has_rule (take j ss) x.left || has_production (take j ss) x.left x.right) ≡ false = not_shown (has_rule (take j ss) x.left || has_production (take j ss) x.left x.right)
     (DefinedTwice x.left) (neither (reserved (x.left ∷ map plain x.right)) (cause_if (has_rule (take j ss) x.left || has_production (take j ss) x.left x.right) (DefinedTwice x.left)) early).1 in
-    let twice : has_production (take j ss) x.left x.right ≡ false = (or_false (has_rule (take j ss) x.left) (has_production (take j ss) x.left x.right) both).1 in
+    let twice : has_production (take j ss) x.left x.right ≡ false = (or_parts (has_rule (take j ss) x.left) (has_production (take j ss) x.left x.right) both).1 in
     let found : has_production (take j ss) x.left x.right ≡ true = any_at (λ y. is_production x.left x.right y.says) (take j ss) i s (get_take ss i j s l a) (said_again s.says x e) in
     true_not_false (sym found ∙ twice)
 

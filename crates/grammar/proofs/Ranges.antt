@@ -1,26 +1,20 @@
 -- The numbers of a file's names are in range.
-use Rattle.std.proofs.Common.{◌≡◌, inl, inr, ℕ, zero, suc, ◌<◌, ◌≤◌, Bool, true, false, ◌&&◌, ◌||◌, List, [], ◌∷◌, ◌++◌, refl, ap, sym, ◌∙◌, length, arith, subst, if◌then◌else◌, not, nat_lt, Some, None, map, slice_get, slice_index_or, All}
-use Rattle.grammar.proofs.Common.{list_any, fold, bytes_eq, list_any-append, Symbol, Nonterminal, length-map, All-nil, All-cons, Expression, HasProduction, IsProductive, FileGrammar, IsUsable, IsKnown, IsGrammar, AreBelow, grammar_with, ArePatterns, Word, plain, Statement, Line, Nothing, Production, Rule, Start, Fold, Bad, RuleLine, ProductionLine, as_production, as_start, productions, starts, nonterminals, with_name, is_among, number_of, first_of, rule_names, symbol_of, production_of, is_fold, grammar_of, HaveReferents, symbol_fault, right_fault, reference_fault, NotANonterminal, is_skip_rule, has_rule, list_any-map}
-use Rattle.std.specs.Str.{chars}
-use Rattle.grammar_file.specs.Contents.{rules}
+use Rattle.std.proofs.Common.{◌≡◌, inl, inr, ℕ, zero, suc, ◌<◌, ◌≤◌, Bool, true, false, ◌&&◌, ◌||◌, List, [], ◌∷◌, ◌++◌, refl, ap, sym, ◌∙◌, length, arith, subst, if◌then◌else◌, not, nat_lt, Some, None, map, slice_get, slice_index_or, All, chars}
+use Rattle.grammar.proofs.Common.{list_any, fold, bytes_eq, list_any-append, Symbol, Nonterminal, length-map, All-nil, All-cons, Expression, HasProduction, IsProductive, FileGrammar, IsUsable, IsKnown, IsGrammar, AreBelow, grammar_with, ArePatterns, Word, plain, Statement, Line, Nothing, Production, Rule, Start, Fold, Bad, RuleLine, ProductionLine, as_production, as_start, productions, starts, nonterminals, with_name, is_among, number_of, first_of, rule_names, symbol_of, production_of, is_fold, grammar_of, HaveReferents, symbol_fault, right_fault, reference_fault, NotANonterminal, is_skip_rule, has_rule, list_any-map, not-false, or-true, or_parts, rules}
 use Rattle.grammar.proofs.Lefts.{bytes_eq_same}
-use Rattle.grammar.proofs.Numbered.{AllNamed, AreNamed, AreOnce, comes_from, says_production, not_shown, or_false, number_below, number_at, nonterminal_is, terminal_is, IsMadeFrom, made_from, distinct}
+use Rattle.grammar.proofs.Numbered.{AllNamed, AreNamed, AreOnce, comes_from, says_production, not_shown, number_below, number_at, nonterminal_is, terminal_is, IsMadeFrom, made_from, distinct}
 
 kept : (w x : Word) (names : List Word) → is_among w names ≡ true → is_among w (with_name names x) ≡ true
 kept w x names h =
     elim (is_among x names) as (λ t. is_among w (if t then names else names ++ x ∷ []) ≡ true)
     [ true ↦ h | false ↦ list_any-append (λ v. bytes_eq v w) names (x ∷ []) ∙ ap (λ b. b || is_among w (x ∷ [])) h ]
 
-pub or_true : (a : Bool) → (a || true) ≡ true
-or_true true = refl
-or_true false = refl
-
 pub names_added : (x : Word) (names : List Word) → is_among x (with_name names x) ≡ true
 names_added x names = go (is_among x names) refl
   where
     go : (b : Bool) → is_among x names ≡ b → is_among x (with_name names x) ≡ true
     go true e = rw e e
-    go false e = rw e (list_any-append (λ v. bytes_eq v x) names (x ∷ []) ∙ ap (λ b. is_among x names || (b || false)) (bytes_eq_same x) ∙ or_true (is_among x names))
+    go false e = rw e (list_any-append (λ v. bytes_eq v x) names (x ∷ []) ∙ ap (λ b. is_among x names || (b || false)) (bytes_eq_same x) ∙ or-true (is_among x names))
 
 pub fold_keeps : (w : Word) (names ws : List Word) → is_among w names ≡ true → is_among w (fold with_name names ws) ≡ true
 fold_keeps w names [] h = h
@@ -94,10 +88,6 @@ says_start s w h = go s.says h
     go (Fold name) e = cc
     go Bad e = cc
 
-is_true : (b : Bool) → not b ≡ false → b ≡ true
-is_true true h = refl
-is_true false h = cc
-
 and_true_false : (b : Bool) → (b && true) ≡ false → b ≡ false
 and_true_false true h = cc
 and_true_false false h = refl
@@ -114,7 +104,7 @@ first_among ss refers [] e h = cc
 first_among ss refers (w ∷ rest) e h =
     let (k, s, there, says) = start_line ss w rest e in
     let fine : reference_fault ss (Start w) ≡ None = subst (λ l. reference_fault ss l ≡ None) says (refers k s there) in
-    is_true (is_among w (nonterminals ss)) (not_shown (not (is_among w (nonterminals ss))) (NotANonterminal w) fine)
+    not-false (is_among w (nonterminals ss)) (not_shown (not (is_among w (nonterminals ss))) (NotANonterminal w) fine)
 
 pub start_among : (ss : List Statement) → HaveReferents ss ss → nat_lt 0 (length (starts ss)) ≡ true → is_among (first_of (starts ss)) (nonterminals ss) ≡ true
 start_among ss refers h = first_among ss refers (starts ss) refl h
@@ -124,10 +114,10 @@ not_skipped_at : (rs : List RuleLine) (w : Word) (k : ℕ) → list_any (is_skip
 not_skipped_at [] w k h e = refl
 not_skipped_at (r ∷ rs) w zero h e =
     let same : r.name ≡ w = cc in
-    let none : is_skip_rule w r ≡ false = (or_false (is_skip_rule w r) (list_any (is_skip_rule w) rs) h).0 in
+    let none : is_skip_rule w r ≡ false = (or_parts (is_skip_rule w r) (list_any (is_skip_rule w) rs) h).0 in
     let skip : (r.skip && true) ≡ false = ap (λ b. r.skip && b) (sym (ap (bytes_eq r.name) (sym same) ∙ bytes_eq_same r.name)) ∙ none in
     and_true_false r.skip skip
-not_skipped_at (r ∷ rs) w (suc k) h e = not_skipped_at rs w k (or_false (is_skip_rule w r) (list_any (is_skip_rule w) rs) h).1 e
+not_skipped_at (r ∷ rs) w (suc k) h e = not_skipped_at rs w k (or_parts (is_skip_rule w r) (list_any (is_skip_rule w) rs) h).1 e
 
 -- what the statements define
 module _ (ss : List Statement) (es : List Expression) (symbols : List Symbol) where

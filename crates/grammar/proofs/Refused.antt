@@ -1,7 +1,6 @@
 -- A text with a fault is no grammar's file.
-use Rattle.std.proofs.Common.{◌≡◌, inl, inr, ℕ, Bool, true, false, List, [], ◌∷◌, ◌++◌, refl, ap, ◌∙◌, length, take, arith, subst, Option, Some, None, Result, Ok, Err, IfErr, slice_get}
-use Rattle.std.specs.Str.{chars}
-use Rattle.grammar.proofs.Common.{slice_get_within, PatternFault, refused, GrammarFault, IfSome_then, Statement, statements, Line, Nothing, Production, Rule, Start, Fold, Bad, nonterminals, written_out, Cause, HasPattern, HasPatternFault, IsFaultless, IsLineFault, IsFileFault, too_large, first_line, line, no_start, reference, reference_fault, IsFault, file_fault, unproductive, FileGrammar, IsGrammarOf, Reports}
+use Rattle.std.proofs.Common.{◌≡◌, inl, inr, ℕ, List, [], ◌∷◌, ◌++◌, refl, ap, ◌∙◌, length, take, arith, subst, Option, Some, None, Result, Ok, Err, IfErr, slice_get, chars}
+use Rattle.grammar.proofs.Common.{slice_get_within, PatternFault, refused, GrammarFault, IfSome_then, Statement, statements, Line, Nothing, Production, Rule, Start, Fold, Bad, nonterminals, written_out, Cause, HasPattern, HasPatternFault, IsFaultless, IsLineFault, IsFileFault, too_large, first_line, line, no_start, reference, reference_fault, IsFault, file_fault, unproductive, FileGrammar, IsGrammarOf, Reports, both_ways}
 
 met : {X : Type 0} (xs : List X) (y : X) (ys : List X) → slice_get (xs ++ y ∷ ys) (length xs) ≡ Some y
 met [] y ys = refl
@@ -27,9 +26,6 @@ module _ (text : List ℕ) (g : FileGrammar) (of : IsGrammarOf text g) where
   abbrev ss : List Statement
   ss = statements text
 
-  untrue : (b : Bool) → b ≡ true → b ≡ false → ⊥
-  untrue b yes' no' = cc
-
   faultless_at : (before after : List Statement) (s : Statement) → ss ≡ before ++ s ∷ after → IsFaultless before s.says
   faultless_at before after s split =
       let there : slice_get ss (length before) ≡ Some s = ap (λ xs. slice_get xs (length before)) split ∙ met before s after in
@@ -41,12 +37,12 @@ module _ (text : List ℕ) (g : FileGrammar) (of : IsGrammarOf text g) where
 
   no_file_fault : (n : ℕ) (c : Cause) → IsFileFault text n c → ⊥
   no_file_fault n c (too_large large) = omega (arith, large, of.whole.small)
-  no_file_fault n c (first_line small none) = untrue _ of.whole.headed none
+  no_file_fault n c (first_line small none) = both_ways _ none of.whole.headed
   no_file_fault n c (line m d small headed h) =
       let (before, after, more) = h in
       let (s, split, is, free, fault) = more in
       no_line_fault before s.says d (faultless_at before after s split) fault
-  no_file_fault n c (no_start small headed free none) = untrue _ of.whole.started none
+  no_file_fault n c (no_start small headed free none) = both_ways _ none of.whole.started
   no_file_fault n c (reference m d whole h) =
       let (before, after, more) = h in
       let (s, split, is, fine, fault) = more in

@@ -1,14 +1,8 @@
 -- What marks at used nonterminals mean.
 use Rattle.std.proofs.Common.{◌≡◌, inl, inr, ℕ, zero, suc, ◌+◌, ◌<◌, Bool, true, false, ◌&&◌, List, [], ◌∷◌, ◌++◌, refl, ap, sym, ◌∙◌, length, take, drop, get_or, set, replicate, subst, Some, slice_get, slice_index_or}
-use Rattle.grammar.proofs.Common.{take_more, get_or-set_other, get_or-set_at, Symbol, Nonterminal, Grammar, IsUsed, The_start, On_right, is_marked, are_marked, IsSpread, IsReached, AreWithin, AreOnlyUsed, AreAllUsed, push_at}
+use Rattle.grammar.proofs.Common.{take_more, get_or-set_other, get_or-set_at, Symbol, Nonterminal, Grammar, IsUsed, The_start, On_right, is_marked, are_marked, IsSpread, IsReached, AreWithin, AreOnlyUsed, AreAllUsed, push_at, and_parts}
 use Rattle.definitions.specs.Trees.{Production}
-use Rattle.grammar.proofs.NonterminalMarks.{and-left, and-right, same_or_not}
-
-all_push : (marks : List Bool) (xs : List Symbol) (s : Symbol) → are_marked marks xs ≡ true → is_marked marks s ≡ true → are_marked marks (xs ++ s ∷ []) ≡ true
-all_push marks [] s h e = ap (λ b. b && true) e
-all_push marks (x ∷ xs) s h e =
-    ap (λ b. b && are_marked marks (xs ++ s ∷ [])) (and-left (is_marked marks x) (are_marked marks xs) h)
-    ∙ all_push marks xs s (and-right (is_marked marks x) (are_marked marks xs) h) e
+use Rattle.grammar.proofs.NonterminalMarks.{same_or_not}
 
 pub spread_more : (ps : List Production) (marks : List Bool) (i : ℕ) (x : Production) → i < length ps → x ≡ get_or ps i x → IsSpread (take i ps) marks
     → (slice_index_or marks x.left false ≡ true → are_marked marks x.right ≡ true) → IsSpread (take (i + 1) ps) marks
@@ -38,8 +32,8 @@ used_more start ps marks n within only reached g m begins same marked =
     ]
 
 middle : (marks : List Bool) (before : List Symbol) (s : Symbol) (after : List Symbol) → are_marked marks (before ++ (s ∷ after)) ≡ true → is_marked marks s ≡ true
-middle marks [] s after h = and-left (is_marked marks s) (are_marked marks after) h
-middle marks (x ∷ before) s after h = middle marks before s after (and-right (is_marked marks x) (are_marked marks (before ++ (s ∷ after))) h)
+middle marks [] s after h = (and_parts (is_marked marks s) (are_marked marks after) h).0
+middle marks (x ∷ before) s after h = middle marks before s after (and_parts (is_marked marks x) (are_marked marks (before ++ (s ∷ after))) h).1
 
 used_marked : (start : ℕ) (ps : List Production) (marks : List Bool) (g : Grammar) → g.start ≡ start → g.productions ≡ ps → slice_index_or marks start false ≡ true
     → IsSpread ps marks → (s : Symbol) → IsUsed g s → is_marked marks s ≡ true

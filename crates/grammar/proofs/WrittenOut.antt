@@ -1,15 +1,10 @@
 -- What the statements of a file define with the productions of its marked words.
-use Rattle.std.proofs.Common.{◌≡◌, ◌⊎◌, inl, inr, ℕ, zero, suc, ◌+◌, ◌*◌, ◌≤◌, Bool, true, false, ◌&&◌, ◌||◌, List, [], ◌∷◌, ◌++◌, refl, ap, sym, ◌∙◌, length, arith, subst, if◌then◌else◌, append-nil, length-append}
-use Rattle.grammar.proofs.Common.{filter, nat_lt, unwrap_or, codes, list_any, list_all, fold, flat_map, enumerate_from, bytes_eq, lines, map-append, filter_map-append, fold-append, list_any-append, Version, One, Mark, Once, Any, AtLeastOnce, AtMostOnce, Word, words, is_name, after_equals, mark_of, is_mark, without_last, plain, Line, Nothing, Production, Rule, Start, Fold, Bad, Statement, at, numbered, is_comment, is_right_word, production, rule, statement, longer_line, line_of_words, line_of, statements_in, version_of, statements, ProductionLine, as_rule, as_production, as_start, productions, starts, nonterminals, is_among, with_name, right_sides, added, marked, written_out, AreFaultless, HaveReferents, symbol_fault, right_fault, is_skip_rule, AreFew, name_unmarked, first_of}
-use Rattle.std.specs.Prelude.{Some, None, map, drop, slice_get}
+use Rattle.std.proofs.Common.{◌≡◌, ◌⊎◌, inl, inr, ℕ, zero, suc, ◌+◌, ◌*◌, ◌≤◌, Bool, true, false, ◌&&◌, ◌||◌, List, [], ◌∷◌, ◌++◌, refl, ap, sym, ◌∙◌, length, arith, subst, if◌then◌else◌, append-nil, length-append, Some, None, map, drop, slice_get}
+use Rattle.grammar.proofs.Common.{filter, nat_lt, unwrap_or, codes, list_any, list_all, fold, flat_map, enumerate_from, bytes_eq, lines, map-append, filter_map-append, fold-append, list_any-append, Version, One, Mark, Once, Any, AtLeastOnce, AtMostOnce, Word, words, is_name, after_equals, mark_of, is_mark, without_last, plain, Line, Nothing, Production, Rule, Start, Fold, Bad, Statement, at, numbered, is_comment, is_right_word, production, rule, statement, longer_line, line_of_words, line_of, statements_in, version_of, statements, ProductionLine, as_rule, as_production, as_start, productions, starts, nonterminals, is_among, with_name, right_sides, added, marked, written_out, AreFaultless, HaveReferents, symbol_fault, right_fault, is_skip_rule, AreFew, name_unmarked, first_of, both_ways, or_cases, or_left, or_parts, or_right, rules}
 use Rattle.grammar_line.specs.Words.{is_marked}
-use Rattle.grammar_file.specs.Contents.{rules}
 use Rattle.grammar.proofs.Lefts.{bytes_eq_same, among_fold}
-use Rattle.grammar.proofs.Numbered.{same_bytes, neither, comes_from, says_production, one_line, AreOnce}
-use Rattle.grammar.proofs.Ranges.{or_true, names_added, fold_keeps, IsFine, Of_nonterminal, Of_rule, is_fine, AllFine, AreFine, AreShort, right_faultless, start_among}
-
-some_is : {X : Type 0} (x y : X) → Some x ≡ Some y → x ≡ y
-some_is x y e = cc
+use Rattle.grammar.proofs.Numbered.{same_bytes, neither, comes_from, says_production, one_line, AreOnce, some_same}
+use Rattle.grammar.proofs.Ranges.{names_added, fold_keeps, IsFine, Of_nonterminal, Of_rule, is_fine, AllFine, AreFine, AreShort, right_faultless, start_among}
 
 abbrev lefts : List ProductionLine → List Word
 lefts ps = map (λ p. p.left) ps
@@ -106,36 +101,26 @@ few_productions ss few = omega (arith, ap length (productions_written ss), lengt
 
 -- Where words stand.
 
-either_there : (a b : Bool) → (a || b) ≡ true → (a ≡ true) ⊎ (b ≡ true)
-either_there true b h = inl refl
-either_there false b h = inr h
-
-first_there : (a b : Bool) → a ≡ true → (a || b) ≡ true
-first_there a b h = ap (λ t. t || b) h
-
-then_there : (a b : Bool) → b ≡ true → (a || b) ≡ true
-then_there a b h = ap (λ t. a || t) h ∙ or_true a
-
 fold_adds_any : (w : Word) (names ws : List Word) → is_among w ws ≡ true → is_among w (fold with_name names ws) ≡ true
 fold_adds_any w names [] h = cc
-fold_adds_any w names (x ∷ ws) h = elim (either_there (bytes_eq x w) (is_among w ws) h) [
+fold_adds_any w names (x ∷ ws) h = elim (or_cases (bytes_eq x w) (is_among w ws) h) [
   | inl e ↦ fold_keeps w (with_name names x) ws (subst (λ v. is_among v (with_name names x) ≡ true) (same_bytes x w e) (names_added x names))
   | inr t ↦ fold_adds_any w (with_name names x) ws t
 ]
 
 own_left : (m : Mark) (w x : Word) → is_mark m ≡ true → is_among w (lefts (lines_for w (right_sides m w x))) ≡ true
 own_left Once w x h = cc
-own_left d w x h = first_there (bytes_eq w w) _ (bytes_eq_same w)
+own_left d w x h = or_left (bytes_eq w w) _ (bytes_eq_same w)
 
 among_added : (w : Word) (ws : List Word) → is_marked w ≡ true → is_among w ws ≡ true → is_among w (lefts (flat_map added_lines ws)) ≡ true
 among_added w [] m h = cc
 among_added w (v ∷ vs) m h =
     ap (is_among w) (map-append (λ p. p.left) (added_lines v) (flat_map added_lines vs))
     ∙ list_any-append (λ u. bytes_eq u w) (lefts (added_lines v)) (lefts (flat_map added_lines vs))
-    ∙ elim (either_there (bytes_eq v w) (is_among w vs) h) [
-      | inl e ↦ first_there (is_among w (lefts (added_lines v))) (is_among w (lefts (flat_map added_lines vs)))
+    ∙ elim (or_cases (bytes_eq v w) (is_among w vs) h) [
+      | inl e ↦ or_left (is_among w (lefts (added_lines v))) (is_among w (lefts (flat_map added_lines vs)))
           (subst (λ u. is_among w (lefts (added_lines u)) ≡ true) (sym (same_bytes v w e)) (own_left (mark_of w) w (plain w) m))
-      | inr t ↦ then_there (is_among w (lefts (added_lines v))) (is_among w (lefts (flat_map added_lines vs))) (among_added w vs m t)
+      | inr t ↦ or_right (is_among w (lefts (added_lines v))) (is_among w (lefts (flat_map added_lines vs))) (among_added w vs m t)
     ]
 
 in_filter : (w : Word) (ws : List Word) → is_among w (filter is_marked ws) ≡ true → (is_marked w ≡ true) × (is_among w ws ≡ true)
@@ -143,26 +128,26 @@ in_filter w [] h = cc
 in_filter w (v ∷ vs) h = go (is_marked v) refl (λ t. in_filter w vs t) h
   where
     later : (is_marked w ≡ true) × (is_among w vs ≡ true) → (is_marked w ≡ true) × (is_among w (v ∷ vs) ≡ true)
-    later two = (two.0, then_there (bytes_eq v w) (is_among w vs) two.1)
+    later two = (two.0, or_right (bytes_eq v w) (is_among w vs) two.1)
 
     go : (b : Bool) → is_marked v ≡ b → (is_among w (filter is_marked vs) ≡ true → (is_marked w ≡ true) × (is_among w vs ≡ true))
         → is_among w (if b then v ∷ filter is_marked vs else filter is_marked vs) ≡ true → (is_marked w ≡ true) × (is_among w (v ∷ vs) ≡ true)
-    go true m f t = elim (either_there (bytes_eq v w) (is_among w (filter is_marked vs)) t) [
-      | inl e ↦ (subst (λ u. is_marked u ≡ true) (same_bytes v w e) m, first_there (bytes_eq v w) (is_among w vs) e)
+    go true m f t = elim (or_cases (bytes_eq v w) (is_among w (filter is_marked vs)) t) [
+      | inl e ↦ (subst (λ u. is_marked u ≡ true) (same_bytes v w e) m, or_left (bytes_eq v w) (is_among w vs) e)
       | inr r ↦ later (f r)
     ]
     go false m f t = later (f t)
 
 to_filter : (w : Word) (ws : List Word) → is_marked w ≡ true → is_among w ws ≡ true → is_among w (filter is_marked ws) ≡ true
 to_filter w [] m h = cc
-to_filter w (v ∷ vs) m h = elim (either_there (bytes_eq v w) (is_among w vs) h) [
+to_filter w (v ∷ vs) m h = elim (or_cases (bytes_eq v w) (is_among w vs) h) [
   | inl e ↦ let mv : is_marked v ≡ true = ap is_marked (same_bytes v w e) ∙ m in
-      ap (λ b. is_among w (if b then v ∷ filter is_marked vs else filter is_marked vs)) mv ∙ first_there (bytes_eq v w) (is_among w (filter is_marked vs)) e
+      ap (λ b. is_among w (if b then v ∷ filter is_marked vs else filter is_marked vs)) mv ∙ or_left (bytes_eq v w) (is_among w (filter is_marked vs)) e
   | inr t ↦ go (is_marked v) (to_filter w vs m t)
 ]
   where
     go : (b : Bool) → is_among w (filter is_marked vs) ≡ true → is_among w (if b then v ∷ filter is_marked vs else filter is_marked vs) ≡ true
-    go true t = then_there (bytes_eq v w) (is_among w (filter is_marked vs)) t
+    go true t = or_right (bytes_eq v w) (is_among w (filter is_marked vs)) t
     go false t = t
 
 -- the words of the right sides
@@ -197,8 +182,8 @@ all_rights : (ps : List ProductionLine) (w : Word) (p : ℕ) (x : ProductionLine
 all_rights [] w p x e h = cc
 all_rights (y ∷ ps) w zero x e h =
     let same : y ≡ x = cc in
-    list_any-append (λ u. bytes_eq u w) y.right (flat_map (λ z. z.right) ps) ∙ first_there (is_among w y.right) _ (subst (λ (z : ProductionLine). is_among w z.right ≡ true) (sym same) h)
-all_rights (y ∷ ps) w (suc p) x e h = list_any-append (λ u. bytes_eq u w) y.right (flat_map (λ z. z.right) ps) ∙ then_there (is_among w y.right) _ (all_rights ps w p x e h)
+    list_any-append (λ u. bytes_eq u w) y.right (flat_map (λ z. z.right) ps) ∙ or_left (is_among w y.right) _ (subst (λ (z : ProductionLine). is_among w z.right ≡ true) (sym same) h)
+all_rights (y ∷ ps) w (suc p) x e h = list_any-append (λ u. bytes_eq u w) y.right (flat_map (λ z. z.right) ps) ∙ or_right (is_among w y.right) _ (all_rights ps w p x e h)
 
 module _ (ss : List Statement) (refers : HaveReferents ss ss) where
   abbrev all : List Statement
@@ -223,8 +208,8 @@ module _ (ss : List Statement) (refers : HaveReferents ss ss) where
   fine_words [] free among = tt
   fine_words (w ∷ ws) free among =
       let two = neither (symbol_fault ss (plain w)) (right_fault ss (map plain ws)) free in (
-        fine_word w two.0 (among w (first_there (bytes_eq w w) (is_among w ws) (bytes_eq_same w))),
-        fine_words ws two.1 (λ v h m. among v (then_there (bytes_eq w v) (is_among v ws) h) m),
+        fine_word w two.0 (among w (or_left (bytes_eq w w) (is_among w ws) (bytes_eq_same w))),
+        fine_words ws two.1 (λ v h m. among v (or_right (bytes_eq w v) (is_among v ws) h) m),
       )
 
   fine_line : (p : ℕ) (x : ProductionLine) → slice_get (productions ss) p ≡ Some x → AllFine all x.right
@@ -235,7 +220,7 @@ module _ (ss : List Statement) (refers : HaveReferents ss ss) where
   free_in w [] free h = cc
   free_in w (v ∷ vs) free h =
       let two = neither (symbol_fault ss (plain v)) (right_fault ss (map plain vs)) free in
-      elim (either_there (bytes_eq v w) (is_among w vs) h) [
+      elim (or_cases (bytes_eq v w) (is_among w vs) h) [
         | inl e ↦ subst (λ u. symbol_fault ss (plain u) ≡ None) (same_bytes v w e) two.0
         | inr t ↦ free_in w vs two.1 t
       ]
@@ -244,31 +229,31 @@ module _ (ss : List Statement) (refers : HaveReferents ss ss) where
       → is_among w (flat_map (λ y. y.right) ps) ≡ true → symbol_fault ss (plain w) ≡ None
   free_among w [] free h = cc
   free_among w (y ∷ ps) free h =
-      elim (either_there (is_among w y.right) (is_among w (flat_map (λ z. z.right) ps)) (sym (list_any-append (λ u. bytes_eq u w) y.right (flat_map (λ z. z.right) ps)) ∙ h)) [
+      elim (or_cases (is_among w y.right) (is_among w (flat_map (λ z. z.right) ps)) (sym (list_any-append (λ u. bytes_eq u w) y.right (flat_map (λ z. z.right) ps)) ∙ h)) [
         | inl t ↦ free_in w y.right (free 0 y refl) t
         | inr t ↦ free_among w ps (λ p x e. free (suc p) x e) t
       ]
 
   fine_sides : (m : Mark) (w x : Word) → IsFine all w → IsFine all x → (p : ℕ) (y : ProductionLine) → slice_get (lines_for w (right_sides m w x)) p ≡ Some y → AllFine all y.right
   fine_sides Once w x a b p y e = cc
-  fine_sides Any w x a b (suc zero) y e = subst (λ (z : ProductionLine). AllFine all z.right) (some_is _ y e) (a, (b, tt))
+  fine_sides Any w x a b (suc zero) y e = subst (λ (z : ProductionLine). AllFine all z.right) (some_same _ y e) (a, (b, tt))
   fine_sides Any w x a b (suc (suc p)) y e = cc
-  fine_sides AtLeastOnce w x a b zero y e = subst (λ (z : ProductionLine). AllFine all z.right) (some_is _ y e) (b, tt)
-  fine_sides AtLeastOnce w x a b (suc zero) y e = subst (λ (z : ProductionLine). AllFine all z.right) (some_is _ y e) (a, (b, tt))
+  fine_sides AtLeastOnce w x a b zero y e = subst (λ (z : ProductionLine). AllFine all z.right) (some_same _ y e) (b, tt)
+  fine_sides AtLeastOnce w x a b (suc zero) y e = subst (λ (z : ProductionLine). AllFine all z.right) (some_same _ y e) (a, (b, tt))
   fine_sides AtLeastOnce w x a b (suc (suc p)) y e = cc
-  fine_sides AtMostOnce w x a b (suc zero) y e = subst (λ (z : ProductionLine). AllFine all z.right) (some_is _ y e) (b, tt)
+  fine_sides AtMostOnce w x a b (suc zero) y e = subst (λ (z : ProductionLine). AllFine all z.right) (some_same _ y e) (b, tt)
   fine_sides AtMostOnce w x a b (suc (suc p)) y e = cc
-  fine_sides d w x a b zero y e = subst (λ (z : ProductionLine). AllFine all z.right) (some_is _ y e) tt
+  fine_sides d w x a b zero y e = subst (λ (z : ProductionLine). AllFine all z.right) (some_same _ y e) tt
 
   fine_added : (ws : List Word) → ((w : Word) → is_among w ws ≡ true → is_among w (marked ss) ≡ true) → (p : ℕ) (y : ProductionLine)
       → slice_get (flat_map added_lines ws) p ≡ Some y → AllFine all y.right
   fine_added [] among p y e = cc
   fine_added (w ∷ ws) among p y e = elim (met_in (added_lines w) (flat_map added_lines ws) p y e) [
     | inl there ↦
-        let here : is_among w (marked ss) ≡ true = among w (first_there (bytes_eq w w) (is_among w ws) (bytes_eq_same w)) in
+        let here : is_among w (marked ss) ≡ true = among w (or_left (bytes_eq w w) (is_among w ws) (bytes_eq_same w)) in
         let name : IsFine all (plain w) = lift (plain w) (is_fine ss (plain w) (free_among w (productions ss) (λ q x h. right_faultless ss refers q x h) (marked_word w ss here).1)) in
         fine_sides (mark_of w) w (plain w) (Of_nonterminal (marked_in w ss here)) name p y there
-    | inr h ↦ let (q, is, there) = h in fine_added ws (λ v t. among v (then_there (bytes_eq w v) (is_among v ws) t)) q y there
+    | inr h ↦ let (q, is, there) = h in fine_added ws (λ v t. among v (or_right (bytes_eq w v) (is_among v ws) t)) q y there
   ]
 
   pub are_fine : AreFine all
@@ -281,14 +266,14 @@ module _ (ss : List Statement) (refers : HaveReferents ss ss) where
 
 short_sides : (m : Mark) (w x : Word) (p : ℕ) (y : ProductionLine) → slice_get (lines_for w (right_sides m w x)) p ≡ Some y → length y.right ≤ 16
 short_sides Once w x p y e = cc
-short_sides Any w x zero y e = let is = ap (λ (z : ProductionLine). length z.right) (some_is _ y e) in omega (arith, is)
-short_sides Any w x (suc zero) y e = let is = ap (λ (z : ProductionLine). length z.right) (some_is _ y e) in omega (arith, is)
+short_sides Any w x zero y e = let is = ap (λ (z : ProductionLine). length z.right) (some_same _ y e) in omega (arith, is)
+short_sides Any w x (suc zero) y e = let is = ap (λ (z : ProductionLine). length z.right) (some_same _ y e) in omega (arith, is)
 short_sides Any w x (suc (suc p)) y e = cc
-short_sides AtLeastOnce w x zero y e = let is = ap (λ (z : ProductionLine). length z.right) (some_is _ y e) in omega (arith, is)
-short_sides AtLeastOnce w x (suc zero) y e = let is = ap (λ (z : ProductionLine). length z.right) (some_is _ y e) in omega (arith, is)
+short_sides AtLeastOnce w x zero y e = let is = ap (λ (z : ProductionLine). length z.right) (some_same _ y e) in omega (arith, is)
+short_sides AtLeastOnce w x (suc zero) y e = let is = ap (λ (z : ProductionLine). length z.right) (some_same _ y e) in omega (arith, is)
 short_sides AtLeastOnce w x (suc (suc p)) y e = cc
-short_sides AtMostOnce w x zero y e = let is = ap (λ (z : ProductionLine). length z.right) (some_is _ y e) in omega (arith, is)
-short_sides AtMostOnce w x (suc zero) y e = let is = ap (λ (z : ProductionLine). length z.right) (some_is _ y e) in omega (arith, is)
+short_sides AtMostOnce w x zero y e = let is = ap (λ (z : ProductionLine). length z.right) (some_same _ y e) in omega (arith, is)
+short_sides AtMostOnce w x (suc zero) y e = let is = ap (λ (z : ProductionLine). length z.right) (some_same _ y e) in omega (arith, is)
 short_sides AtMostOnce w x (suc (suc p)) y e = cc
 
 short_added : (ws : List Word) (p : ℕ) (y : ProductionLine) → slice_get (flat_map added_lines ws) p ≡ Some y → length y.right ≤ 16
@@ -310,10 +295,6 @@ abbrev AreDistinct : List Word → Type 0
 AreDistinct [] = Unit {0}
 AreDistinct (w ∷ ws) = (is_among w ws ≡ false) × AreDistinct ws
 
-neither_there : (a b : Bool) → (a || b) ≡ false → (a ≡ false) × (b ≡ false)
-neither_there true b e = cc
-neither_there false b e = (refl, e)
-
 both_absent : (a b : Bool) → a ≡ false → b ≡ false → (a || b) ≡ false
 both_absent a b e f = ap (λ t. t || b) e ∙ f
 
@@ -327,7 +308,7 @@ turned v w e = go (bytes_eq v w) refl
 distinct_push : (ws : List Word) (w : Word) → AreDistinct ws → is_among w ws ≡ false → AreDistinct (ws ++ w ∷ [])
 distinct_push [] w d e = (refl, tt)
 distinct_push (v ∷ vs) w d e =
-    let two = neither_there (bytes_eq v w) (is_among w vs) e in (
+    let two = or_parts (bytes_eq v w) (is_among w vs) e in (
       list_any-append (λ u. bytes_eq u v) vs (w ∷ []) ∙ both_absent (is_among v vs) (bytes_eq w v || false) d.0 (both_absent (bytes_eq w v) false (turned w v two.0) refl),
       distinct_push vs w d.1 two.1,
     )
@@ -345,21 +326,21 @@ distinct_fold names (w ∷ ws) d = distinct_fold (with_name names w) ws (distinc
 
 left_of_line : (w : Word) (rights : List (List Word)) (p : ℕ) (y : ProductionLine) → slice_get (lines_for w rights) p ≡ Some y → w ≡ y.left
 left_of_line w [] p y e = cc
-left_of_line w (r ∷ rs) zero y e = ap (λ (z : ProductionLine). z.left) (some_is _ y e)
+left_of_line w (r ∷ rs) zero y e = ap (λ (z : ProductionLine). z.left) (some_same _ y e)
 left_of_line w (r ∷ rs) (suc p) y e = left_of_line w rs p y e
 
 left_of_added : (ws : List Word) (p : ℕ) (y : ProductionLine) → slice_get (flat_map added_lines ws) p ≡ Some y → is_among y.left ws ≡ true
 left_of_added [] p y e = cc
 left_of_added (w ∷ ws) p y e = elim (met_in (added_lines w) (flat_map added_lines ws) p y e) [
-  | inl there ↦ first_there (bytes_eq w y.left) (is_among y.left ws) (ap (bytes_eq w) (sym (left_of_line w (right_sides (mark_of w) w (plain w)) p y there)) ∙ bytes_eq_same w)
-  | inr h ↦ let (q, is, there) = h in then_there (bytes_eq w y.left) (is_among y.left ws) (left_of_added ws q y there)
+  | inl there ↦ or_left (bytes_eq w y.left) (is_among y.left ws) (ap (bytes_eq w) (sym (left_of_line w (right_sides (mark_of w) w (plain w)) p y there)) ∙ bytes_eq_same w)
+  | inr h ↦ let (q, is, there) = h in or_right (bytes_eq w y.left) (is_among y.left ws) (left_of_added ws q y there)
 ]
 
 two_ways : (w : Word) (r s : List Word) (p q : ℕ) (y : ProductionLine) → (r ≡ s → ⊥) → slice_get (lines_for w (r ∷ s ∷ [])) p ≡ Some y → slice_get (lines_for w (r ∷ s ∷ [])) q ≡ Some y → p ≡ q
 two_ways w r s zero zero y different a b = refl
-two_ways w r s zero (suc zero) y different a b = absurd (different (ap (λ (z : ProductionLine). z.right) (some_is _ y a) ∙ sym (ap (λ (z : ProductionLine). z.right) (some_is _ y b))))
+two_ways w r s zero (suc zero) y different a b = absurd (different (ap (λ (z : ProductionLine). z.right) (some_same _ y a) ∙ sym (ap (λ (z : ProductionLine). z.right) (some_same _ y b))))
 two_ways w r s zero (suc (suc q)) y different a b = cc
-two_ways w r s (suc zero) zero y different a b = absurd (different (ap (λ (z : ProductionLine). z.right) (some_is _ y b) ∙ sym (ap (λ (z : ProductionLine). z.right) (some_is _ y a))))
+two_ways w r s (suc zero) zero y different a b = absurd (different (ap (λ (z : ProductionLine). z.right) (some_same _ y b) ∙ sym (ap (λ (z : ProductionLine). z.right) (some_same _ y a))))
 two_ways w r s (suc zero) (suc zero) y different a b = refl
 two_ways w r s (suc zero) (suc (suc q)) y different a b = cc
 two_ways w r s (suc (suc p)) q y different a b = cc
@@ -370,9 +351,6 @@ once_sides Any w x p q y a b = two_ways w [] (w ∷ x ∷ []) p q y (λ e. absur
 once_sides AtLeastOnce w x p q y a b = two_ways w (x ∷ []) (w ∷ x ∷ []) p q y (λ e. let h : 1 ≡ 2 = ap length e in omega (arith, h)) a b
 once_sides AtMostOnce w x p q y a b = two_ways w [] (x ∷ []) p q y (λ e. absurd (cc)) a b
 
-not_both : (b : Bool) → b ≡ true → b ≡ false → ⊥
-not_both b yes' no' = cc
-
 once_added : (ws : List Word) → AreDistinct ws → (p q : ℕ) (y : ProductionLine) → slice_get (flat_map added_lines ws) p ≡ Some y → slice_get (flat_map added_lines ws) q ≡ Some y → p ≡ q
 once_added [] d p q y a b = cc
 once_added (w ∷ ws) d p q y a b =
@@ -380,10 +358,10 @@ once_added (w ∷ ws) d p q y a b =
       | inl here ↦ elim (met_in (added_lines w) (flat_map added_lines ws) q y b) [
         | inl there ↦ once_sides (mark_of w) w (plain w) p q y here there
         | inr h ↦ let (k, is, there) = h in
-            absurd (not_both (is_among w ws) (subst (λ u. is_among u ws ≡ true) (sym (left_of_line w (right_sides (mark_of w) w (plain w)) p y here)) (left_of_added ws k y there)) d.0)
+            absurd (both_ways (is_among w ws) d.0 (subst (λ u. is_among u ws ≡ true) (sym (left_of_line w (right_sides (mark_of w) w (plain w)) p y here)) (left_of_added ws k y there)))
       ]
       | inr g ↦ let (j, at, here) = g in elim (met_in (added_lines w) (flat_map added_lines ws) q y b) [
-        | inl there ↦ absurd (not_both (is_among w ws) (subst (λ u. is_among u ws ≡ true) (sym (left_of_line w (right_sides (mark_of w) w (plain w)) q y there)) (left_of_added ws j y here)) d.0)
+        | inl there ↦ absurd (both_ways (is_among w ws) d.0 (subst (λ u. is_among u ws ≡ true) (sym (left_of_line w (right_sides (mark_of w) w (plain w)) q y there)) (left_of_added ws j y here)))
         | inr h ↦ let (k, is, there) = h in let same : j ≡ k = once_added ws d.1 j k y here there in omega (arith, at, is, same)
       ]
     ]
@@ -425,7 +403,7 @@ plain_words v (a ∷ b ∷ ws) pattern = plain_if (is_comment a) Nothing (longer
 
 says_numbered : (n : ℕ) (l : Line) (s : Statement) → numbered n l ≡ Some s → l ≡ s.says
 says_numbered n Nothing s e = cc
-says_numbered n d s e = ap (λ (t : Statement). t.says) (some_is _ s e)
+says_numbered n d s e = ap (λ (t : Statement). t.says) (some_same _ s e)
 
 plain_lefts_in : (v : Version) (texts : List (List ℕ)) → HavePlainLefts (statements_in v texts)
 plain_lefts_in v texts k s e =
@@ -442,7 +420,7 @@ named_left ss named p x e =
 
 crossed : (ss : List Statement) → HavePlainLefts ss → (p q : ℕ) (x : ProductionLine) → slice_get (productions ss) p ≡ Some x → slice_get (flat_map added_lines (marked ss)) q ≡ Some x → ⊥
 crossed ss named p q x a b =
-    not_both (is_marked x.left) (marked_word x.left ss (left_of_added (marked ss) q x b)).0 (name_unmarked x.left (named_left ss named p x a))
+    both_ways (is_marked x.left) (name_unmarked x.left (named_left ss named p x a)) (marked_word x.left ss (left_of_added (marked ss) q x b)).0
 
 pub are_once : (ss : List Statement) → AreFaultless ss → HavePlainLefts ss → AreOnce (written_out ss)
 are_once ss free named p q x a b =

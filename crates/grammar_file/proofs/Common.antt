@@ -7,7 +7,8 @@ pub use Rattle.std.specs.Result.{result_and}
 pub use Rattle.std.specs.Str.{bytes_eq, chars}
 pub use Rattle.std.specs.Str.Lines.{lines}
 pub use Rattle.std.proofs.Math.Dec.{eqb}
-pub use Rattle.std.proofs.lemmas.Bool.{eq-eqb, ltb-false, ltb-true, ne_eqb}
+pub use Rattle.std.proofs.Math.Bool.{or-true}
+pub use Rattle.std.proofs.lemmas.Bool.{and_parts, eq-eqb, ltb-false, ltb-true, ne_eqb}
 pub use Rattle.std.proofs.lemmas.Grind.{common_steps, flat_map-append}
 pub use Rattle.std.proofs.lemmas.Iterator.Consumers.{map_from_collect}
 pub use Rattle.std.proofs.lemmas.Iterator.Splits.{YieldsList-from_lines}

@@ -1,17 +1,12 @@
 -- Sets that are lists, each of whose items is there once.
-use Rattle.std.proofs.Common.{◌≡◌, ℕ, Bool, true, false, List, [], ◌∷◌, ◌++◌, refl, ap, sym, ◌∙◌, ◌||◌, ◌&&◌, if◌then◌else◌, map}
-use Rattle.std.specs.Borrow.{Bor}
-use Rattle.grammar_file.proofs.Common.{list_any, bytes_eq, pointwise, bytes_decides, list_any-append, map-append, Word, RuleLine, is_among, is_production, is_skip_rule, has_production, texts, are_among, with_names, with_rule, with_skip, with_sides, Line, Nothing, Production, Rule, Start, Fold, Bad, Statement, at}
+use Rattle.std.proofs.Common.{◌≡◌, ℕ, Bool, true, false, List, [], ◌∷◌, ◌++◌, refl, ap, sym, ◌∙◌, ◌||◌, ◌&&◌, if◌then◌else◌, map, Bor}
+use Rattle.grammar_file.proofs.Common.{list_any, bytes_eq, pointwise, bytes_decides, list_any-append, map-append, Word, RuleLine, is_among, is_production, is_skip_rule, has_production, texts, are_among, with_names, with_rule, with_skip, with_sides, Line, Nothing, Production, Rule, Start, Fold, Bad, Statement, at, and_parts, or-true}
 use Rattle.grammar_file.proofs.NameLookUps.{turned}
 use Rattle.grammar_file.proofs.TestedItems.{pointwise-map}
 
 or-none : (a : Bool) → (a || false) ≡ a
 or-none true = refl
 or-none false = refl
-
-or-some : (a : Bool) → (a || true) ≡ true
-or-some true = refl
-or-some false = refl
 
 -- what is in a list that had an item added unless it was there
 any-with : {X : Type 0} (eq : X → X → Bool) → ((x y : X) → eq x y ≡ true → x ≡ y) → (xs : List X) (v w : X)
@@ -20,19 +15,15 @@ any-with eq same xs v w = go (list_any (λ x. eq x v) xs) refl (eq v w) refl
   where
     go : (b : Bool) → list_any (λ x. eq x v) xs ≡ b → (d : Bool) → eq v w ≡ d → list_any (λ x. eq x w) (if b then xs else xs ++ v ∷ []) ≡ (list_any (λ x. eq x w) xs || eq v w)
     go true e true is =
-        ap (λ x. list_any (λ y. eq y x) xs) (sym (same v w is)) ∙ e ∙ sym (ap (λ d. list_any (λ x. eq x w) xs || d) is ∙ or-some (list_any (λ x. eq x w) xs))
+        ap (λ x. list_any (λ y. eq y x) xs) (sym (same v w is)) ∙ e ∙ sym (ap (λ d. list_any (λ x. eq x w) xs || d) is ∙ or-true (list_any (λ x. eq x w) xs))
     go true e false is = sym (ap (λ d. list_any (λ x. eq x w) xs || d) is ∙ or-none (list_any (λ x. eq x w) xs))
     go false e d is = list_any-append (λ x. eq x w) xs (v ∷ []) ∙ ap (λ d. list_any (λ x. eq x w) xs || d) (or-none (eq v w))
-
-both : (a b : Bool) → (a && b) ≡ true → (a ≡ true) × (b ≡ true)
-both true b h = (refl, h)
-both false b h = absurd (cc)
 
 same_words : (vs ws : List Word) → pointwise bytes_eq vs ws ≡ true → vs ≡ ws
 same_words [] [] h = refl
 same_words [] (w ∷ ws) h = absurd (cc)
 same_words (v ∷ vs) [] h = absurd (cc)
-same_words (v ∷ vs) (w ∷ ws) h = let two = both (bytes_eq v w) (pointwise bytes_eq vs ws) h in λ i. (bytes_decides v w).0 two.0 i ∷ same_words vs ws two.1 i
+same_words (v ∷ vs) (w ∷ ws) h = let two = and_parts (bytes_eq v w) (pointwise bytes_eq vs ws) h in λ i. (bytes_decides v w).0 two.0 i ∷ same_words vs ws two.1 i
 
 turned_words : (vs ws : List Word) → pointwise bytes_eq vs ws ≡ pointwise bytes_eq ws vs
 turned_words [] [] = refl

@@ -1,7 +1,7 @@
 -- The marks of words.
-use Rattle.std.proofs.Common.{◌≡◌, ◌≢◌, ℕ, Bool, true, false, if◌then◌else◌, ◌&&◌, ◌==◌, List, [], ◌∷◌, ◌++◌, refl, ap, sym, ◌∙◌}
+use Rattle.std.proofs.Common.{◌≡◌, ◌≢◌, ℕ, Bool, true, false, if◌then◌else◌, ◌==◌, List, [], ◌∷◌, ◌++◌, refl, ap, sym, ◌∙◌}
 use Rattle.std.specs.List.{list_all}
-use Rattle.std.proofs.lemmas.Bool.{ne_eqb}
+use Rattle.std.proofs.lemmas.Bool.{ne_eqb, and_parts}
 use Rattle.grammar_line.specs.declared.right_word.Mark.TheVariants.{Once, Any, AtLeastOnce, AtMostOnce}
 use Rattle.grammar_line.specs.Words.{Word, is_letter, is_name_byte, is_name, last_byte, without_last, mark_at, mark_of, is_mark, is_marked, plain}
 
@@ -40,13 +40,9 @@ unmarked-by (x ∷ xs) p q r =
     let none : mark_of (x ∷ xs) ≡ Once = no_mark (last_byte (x ∷ xs)) (not_last x xs 42 p) (not_last x xs 43 q) (not_last x xs 63 r) in
     (sym (ap (λ m. if is_mark m then without_last (x ∷ xs) else x ∷ xs) none), sym none)
 
-both : (a b : Bool) → (a && b) ≡ true → (a ≡ true) × (b ≡ true)
-both true b h = (refl, h)
-both false b h = absurd (cc)
-
 all_last : (p : ℕ → Bool) (b : ℕ) (bs : List ℕ) → list_all p (b ∷ bs) ≡ true → p (last_byte (b ∷ bs)) ≡ true
-all_last p b [] h = (both (p b) (list_all p []) h).0
-all_last p b (c ∷ bs) h = all_last p c bs (both (p b) (list_all p (c ∷ bs)) h).1
+all_last p b [] h = (and_parts (p b) (list_all p []) h).0
+all_last p b (c ∷ bs) h = all_last p c bs (and_parts (p b) (list_all p (c ∷ bs)) h).1
 
 not_this : (c b : ℕ) → is_name_byte c ≡ false → is_name_byte b ≡ true → (b == c) ≡ false
 not_this c b never is = ne_eqb b c (λ e. let h : true ≡ false = sym is ∙ ap is_name_byte e ∙ never in absurd (cc))
@@ -55,6 +51,6 @@ not_this c b never is = ne_eqb b c (λ e. let h : true ≡ false = sym is ∙ ap
 pub name_unmarked : (w : Word) → is_name w ≡ true → is_marked w ≡ false
 name_unmarked [] h = absurd (cc)
 name_unmarked (b ∷ bs) h =
-    let last : is_name_byte (last_byte (b ∷ bs)) ≡ true = all_last is_name_byte b bs (both (is_letter b) (list_all is_name_byte (b ∷ bs)) h).1 in
+    let last : is_name_byte (last_byte (b ∷ bs)) ≡ true = all_last is_name_byte b bs (and_parts (is_letter b) (list_all is_name_byte (b ∷ bs)) h).1 in
     let l : ℕ = last_byte (b ∷ bs) in
     ap is_mark (no_mark l (not_this 42 l refl last) (not_this 43 l refl last) (not_this 63 l refl last))

@@ -1,6 +1,6 @@
 -- Kernels that are added to the states.
 use Rattle.std.proofs.Common.{◌≡◌, ◌<◌, ◌≤◌, ◌⊎◌, ℕ, List, [], ◌∷◌, ◌++◌, length, slice_index_or, refl, sym, ap, ◌∙◌, subst, inl, inr, arith, length-append}
-use Rattle.item_sets.proofs.Common.{cases_lt, get_or_append_left, All-cons, Contains-get_or, get_or-append_seam, Symbol, Terminal, Grammar, LrItem, HasItem, ByRules, Start, Goto, Close, IsKernel, rules_valid, valid_rules, not_empty, Origin, Item, IsOrdered, kernel_at, origin_at, IsAbsent, Found, IsReached, IsLed, AreStates, Placed, GoesOn, Shape, IsSound, IsInside, IsItem, item_of, HasKernel}
+use Rattle.item_sets.proofs.Common.{cases_lt, each_more, get_or_append_left, All-cons, Contains-get_or, get_or-append_seam, Symbol, Terminal, Grammar, HasItem, Start, rules_valid, valid_rules, closed_set, Origin, Item, IsOrdered, kernel_at, origin_at, IsAbsent, Found, IsReached, IsLed, AreStates, Placed, GoesOn, Shape, IsSound, IsInside, IsItem, item_of, HasKernel}
 use Rattle.item_sets.proofs.FirstKernel.{start_item, start_kernel}
 
 abbrev none : Origin
@@ -55,14 +55,15 @@ module _ (g : Shape) where
     stays : (s : ℕ) → s < length old.kernels → kernel_at more.kernels s ≡ kernel_at old.kernels s
     stays s l = get_or_append_left old.kernels (kernel ∷ []) [] s l
 
-    -- a fact of each kernel, and of one more
-    each_more : (P : List Item → Type 0) → ((s : ℕ) → s < length old.kernels → P (kernel_at old.kernels s)) → P kernel → (s : ℕ) → s < length more.kernels → P (kernel_at more.kernels s)
-    each_more P each new s l =
-        let n = length-append old.kernels (kernel ∷ []) in
-        elim (cases_lt s (length old.kernels)) [
-          | inl b ↦ subst P (sym (stays s b)) (each s b)
-          | inr b ↦ let at : s ≡ length old.kernels = omega (arith, l, n, b) in subst (λ x. P (kernel_at more.kernels x)) (sym at) (subst P (sym seam) new)
-        ]
+    -- a state was reached from an earlier one, as it is kept
+    led_at : (s : ℕ) (o : Origin) (k : List Item) → origin_at more.origins s ≡ o → kernel_at more.kernels s ≡ k → o.from < s → o.from < length old.kernels
+        → ((prefix : List Symbol) → HasKernel g.grammar (kernel_at old.kernels o.from) prefix → HasKernel g.grammar k (prefix ++ o.symbol ∷ [])) → IsLed g.grammar more s
+    led_at s o k o_is k_is earlier within leads = record {
+      earlier = subst (λ y. y.from < s) (sym o_is) earlier;
+      leads = λ prefix h. subst (λ y. HasKernel g.grammar y (prefix ++ (origin_at more.origins s).symbol ∷ [])) (sym k_is)
+          (subst (λ y. HasKernel g.grammar k (prefix ++ y.symbol ∷ [])) (sym o_is)
+          (leads prefix (subst (λ y. HasKernel g.grammar y prefix) (stays o.from within) (subst (λ y. HasKernel g.grammar (kernel_at more.kernels y.from) prefix) o_is h))));
+    }
 
     led_more : (s : ℕ) → 0 < s → s < length more.kernels → IsLed g.grammar more s
     led_more s p l =
@@ -70,27 +71,14 @@ module _ (g : Shape) where
         let long = h.long in
         elim (cases_lt s (length old.kernels)) [
           | inl b ↦
-              let o : origin_at more.origins s ≡ origin_at old.origins s = get_or_append_left old.origins (record { from = from; symbol = symbol } ∷ []) none s (omega (arith, b, long)) in
               let x = h.led s p b in
               let e = x.earlier in
-              record {
-                earlier = subst (λ y. y.from < s) (sym o) x.earlier;
-                leads = λ prefix k. subst (λ y. HasKernel g.grammar y (prefix ++ (origin_at more.origins s).symbol ∷ [])) (sym (stays s b))
-                    (subst (λ y. HasKernel g.grammar (kernel_at old.kernels s) (prefix ++ y.symbol ∷ [])) (sym o)
-                    (x.leads prefix (subst (λ y. HasKernel g.grammar y prefix) (stays (origin_at old.origins s).from (omega (arith, e, b)))
-                    (subst (λ y. HasKernel g.grammar (kernel_at more.kernels y.from) prefix) o k))));
-              }
+              led_at s (origin_at old.origins s) (kernel_at old.kernels s)
+              (get_or_append_left old.origins (record { from = from; symbol = symbol } ∷ []) none s (omega (arith, b, long))) (stays s b) e (omega (arith, e, b)) x.leads
           | inr b ↦
               let at : s ≡ length old.origins = omega (arith, l, n, b, long) in
-              let o : origin_at more.origins s ≡ record { from = from; symbol = symbol } = ap (origin_at more.origins) at
-              ∙ get_or-append_seam old.origins (record { from = from; symbol = symbol }) [] none in
-              let here : kernel_at more.kernels s ≡ kernel = ap (kernel_at more.kernels) (at ∙ long) ∙ seam in
-              record {
-                earlier = subst (λ y. y.from < s) (sym o) (omega (arith, in_range, b));
-                leads = λ prefix k. subst (λ y. HasKernel g.grammar y (prefix ++ (origin_at more.origins s).symbol ∷ [])) (sym here)
-                    (subst (λ y. HasKernel g.grammar kernel (prefix ++ y.symbol ∷ [])) (sym o)
-                    (leads prefix (subst (λ y. HasKernel g.grammar y prefix) (stays from in_range) (subst (λ y. HasKernel g.grammar (kernel_at more.kernels y.from) prefix) o k))));
-              }
+              led_at s (record { from = from; symbol = symbol }) kernel (ap (origin_at more.origins) at ∙ get_or-append_seam old.origins (record { from = from; symbol = symbol }) [] none)
+              (ap (kernel_at more.kernels) (at ∙ long) ∙ seam) (omega (arith, in_range, b)) in_range leads
         ]
 
     distinct_more : IsAbsent old.kernels kernel → (s : ℕ) → s < length more.kernels → (r : ℕ) → r < s → kernel_at more.kernels r ≡ kernel_at more.kernels s → ⊥
@@ -112,8 +100,8 @@ module _ (g : Shape) where
           sound = h.sound;
           begins = omega (arith, n, begins);
           start = stays 0 h.begins ∙ h.start;
-          ordered = each_more (IsOrdered g) h.ordered ordered;
-          reached = each_more (IsReached g.grammar) h.reached reached_next;
+          ordered = each_more (λ _ k. IsOrdered g k) old.kernels kernel [] h.ordered ordered;
+          reached = each_more (λ _ k. IsReached g.grammar k) old.kernels kernel [] h.reached reached_next;
           distinct = distinct_more absent;
           long = omega (arith, n, m, long);
           led = led_more;
@@ -125,19 +113,10 @@ module _ (g : Shape) where
         let same : more ≡ new = λ i. record { kernels = sym k i; origins = sym o i } in
         subst (AreStates g) same (more_states a)
 
--- a set with an item has one that the closure did not add
-pub kernel_there : (g : Grammar) {prefix : List Symbol} {i : LrItem} → ByRules g prefix i → (k : LrItem) × IsKernel k × ByRules g prefix k
-kernel_there g Start = (_, inl refl, Start)
-kernel_there g (Goto {before = before} {s = s} r) = (_, inr (not_empty g before s), Goto r)
-kernel_there g (Close r p f) = kernel_there g r
-
--- so a prefix with an empty kernel has no item
+-- a prefix with an empty kernel has no item
 pub no_item : (g : Grammar) (kernel : List Item) (prefix : List Symbol) → length kernel ≤ 0 → HasKernel g kernel prefix → HasItem g prefix → ⊥
-no_item g kernel prefix empty h (i, v) =
-    let k = kernel_there g (valid_rules g prefix i v) in
-    let c = h.complete k.0 k.1 (rules_valid g k.2) in
-    let l = c.1.1 in
-    absurd (omega (arith, l, empty))
+no_item g kernel prefix empty h (i, v) = closed_set g (λ _. ⊥) (λ q before n after look p right a none production follows. none) (valid_rules g prefix i v)
+    (λ k is r. let l = (h.complete k is (rules_valid g r)).1.1 in absurd (omega (arith, l, empty)))
 
 pub first_placed : (old new : List (List Item)) (kernel : List Item) (s : ℕ) → old ≡ [] → kernel ≡ start_item ∷ [] → (new ≡ old)
     ⊎ ((new ≡ old ++ kernel ∷ []) × IsAbsent old kernel) → s < length new → new ≡ (start_item ∷ []) ∷ []

@@ -2,21 +2,24 @@
 use Rattle.std.proofs.Common.{◌≡◌, ◌+◌, ◌<◌, ℕ, zero, suc, List, [], ◌∷◌, ◌++◌, Some, refl, sym, ap, ◌∙◌, subst, length, take, drop, Contains, arith}
 use Rattle.item_sets.proofs.Common.{tail-eq_of_cons-eq, Symbol, Grammar, first, LrItem, IsValid, ByRules, Goto, rules_valid, valid_rules, Back, goto_back, Item, Shape, side, after_dot, item_of, IsItem, HasKernel, HasSet, Shifted, step}
 
-pub record Parts (n : ℕ) (ss : List Symbol) (s : Symbol) : Type 0 where
+pub record Parts (n m : ℕ) (ss : List Symbol) (s : Symbol) : Type 0 where
   pub rest : List Symbol
   pub here : drop n ss ≡ s ∷ rest
-  pub before : take (suc n) ss ≡ take n ss ++ (s ∷ [])
-  pub after : drop (suc n) ss ≡ rest
+  pub before : take m ss ≡ take n ss ++ (s ∷ [])
+  pub after : drop m ss ≡ rest
   pub below : n < length ss
 
-pub parts : (n : ℕ) (ss : List Symbol) (s : Symbol) → first (drop n ss) ≡ Some s → Parts n ss s
-parts zero [] s e = absurd (cc e)
-parts zero (x ∷ ss) s e = let k : x ≡ s = cc e in record { rest = ss; here = ap (λ y. y ∷ ss) k; before = ap (λ y. y ∷ []) k; after = refl; below = omega arith }
-parts (suc n) [] s e = absurd (cc e)
-parts (suc n) (x ∷ ss) s e = let p = parts n ss s e in let l = p.below in record { rest = p.rest; here = p.here; before = ap (λ y. x ∷ y) p.before; after = p.after; below = omega (arith, l) }
+parts_from : (n : ℕ) (ss : List Symbol) (s : Symbol) → first (drop n ss) ≡ Some s → Parts n (suc n) ss s
+parts_from zero [] s e = absurd (cc e)
+parts_from zero (x ∷ ss) s e = let k : x ≡ s = cc e in record { rest = ss; here = ap (λ y. y ∷ ss) k; before = ap (λ y. y ∷ []) k; after = refl; below = omega arith }
+parts_from (suc n) [] s e = absurd (cc e)
+parts_from (suc n) (x ∷ ss) s e =
+    let p = parts_from n ss s e in
+    let l = p.below in
+    record { rest = p.rest; here = p.here; before = ap (λ y. x ∷ y) p.before; after = p.after; below = omega (arith, l) }
 
-one_more : (n : ℕ) → suc n ≡ n + 1
-one_more n = omega arith
+pub parts : (n : ℕ) (ss : List Symbol) (s : Symbol) → first (drop n ss) ≡ Some s → Parts n (n + 1) ss s
+parts n ss s e = let next : suc n ≡ n + 1 = omega arith in subst (λ m. Parts n m ss s) next (parts_from n ss s e)
 
 module _ (g : Shape) where
   pub step_known : (i : Item) (s : Symbol) → IsItem g i → first (after_dot g.grammar i) ≡ Some s → IsItem g (step i)
@@ -29,25 +32,17 @@ module _ (g : Grammar) where
         let p = parts j.at (side g j.production) s f in
         let r = subst (λ y. ByRules g prefix (record { production = j.production; before = take j.at (side g j.production); after = y; look = j.look })) p.here
         (valid_rules g prefix (item_of g j) (set.sound j c)) in
-        let n = one_more j.at in
-        let before : take (j.at + 1) (side g j.production) ≡ take j.at (side g j.production) ++ (s ∷ []) =
-        subst (λ m. take m (side g j.production) ≡ take j.at (side g j.production) ++ (s ∷ [])) n p.before in
-        let after : drop (j.at + 1) (side g j.production) ≡ p.rest = subst (λ m. drop m (side g j.production) ≡ p.rest) n p.after in
         rules_valid g (subst (λ y. ByRules g (prefix ++ (s ∷ [])) (record { production = j.production; before = y; after = drop (j.at + 1) (side g j.production); look = j.look }))
-        (sym before) (subst (λ y. ByRules g (prefix ++ (s ∷ [])) (record { production = j.production; before = take j.at (side g j.production) ++ (s ∷ []); after = y; look = j.look }))
-        (sym after) (Goto r)))
+        (sym p.before) (subst (λ y. ByRules g (prefix ++ (s ∷ [])) (record { production = j.production; before = take j.at (side g j.production) ++ (s ∷ []); after = y; look = j.look }))
+        (sym p.after) (Goto r)))
 
     step_is : (k : LrItem) (b : Back g prefix s k) (j : Item) → item_of g j ≡ b.from → first (after_dot g j) ≡ Some s → item_of g (step j) ≡ k
     step_is k b j e f =
         let p = parts j.at (side g j.production) s f in
-        let n = one_more j.at in
-        let before : take (j.at + 1) (side g j.production) ≡ take j.at (side g j.production) ++ (s ∷ []) =
-        subst (λ m. take m (side g j.production) ≡ take j.at (side g j.production) ++ (s ∷ [])) n p.before in
-        let after : drop (j.at + 1) (side g j.production) ≡ p.rest = subst (λ m. drop m (side g j.production) ≡ p.rest) n p.after in
         let rest : p.rest ≡ b.rest = tail-eq_of_cons-eq (sym p.here ∙ ap (λ y. y.after) e ∙ b.after) in
         let production : j.production ≡ b.from.production = ap (λ y. y.production) e in
-        let fore : take (j.at + 1) (side g j.production) ≡ b.from.before ++ (s ∷ []) = before ∙ ap (λ y. y.before ++ (s ∷ [])) e in
-        let back : drop (j.at + 1) (side g j.production) ≡ b.rest = after ∙ rest in
+        let fore : take (j.at + 1) (side g j.production) ≡ b.from.before ++ (s ∷ []) = p.before ∙ ap (λ y. y.before ++ (s ∷ [])) e in
+        let back : drop (j.at + 1) (side g j.production) ≡ b.rest = p.after ∙ rest in
         let look : j.look ≡ b.from.look = ap (λ y. y.look) e in
         let same : item_of g (step j) ≡ record { production = b.from.production; before = b.from.before ++ (s ∷ []); after = b.rest; look = b.from.look } =
         λ i. record { production = production i; before = fore i; after = back i; look = look i } in

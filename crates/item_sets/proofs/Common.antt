@@ -15,7 +15,7 @@ pub use Rattle.std.proofs.lemmas.List.Quantifiers.{all_pairs_push, position-Some
 pub use Rattle.std.proofs.lemmas.Option.{get_or_from_slice_get}
 pub use Rattle.std.proofs.lemmas.Result.{IfOk-weaker, on_ok_weaker}
 pub use Rattle.std.proofs.lemmas.Slice.Eq.{slice_eq-Decides}
-pub use Rattle.definitions.proofs.Ordered.{Contains-cases}
+pub use Rattle.definitions.proofs.Ordered.{Contains-cases, same_elements}
 pub use Rattle.definitions.specs.Derivations.{first}
 pub use Rattle.definitions.specs.Items.{HasItem, HaveSameItems, IsValid, Item as LrItem}
 pub use Rattle.definitions.specs.Sentences.{AllProductive}

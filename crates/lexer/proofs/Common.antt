@@ -4,7 +4,7 @@ pub use Rattle.std.specs.List.{prefix_len}
 pub use mathlib.Core.List.{head-eq_of_cons-eq, tail-eq_of_cons-eq}
 pub use Rattle.std.proofs.Math.Seq.{drop-cons, take-append-add}
 pub use Rattle.std.proofs.lemmas.Bool.{and_from, and_parts, cases_Bool, cases_lt, eq-eqb, eqb-true, false≢true, le-leb, leb-true, ltb-false, ltb-true}
-pub use Rattle.std.proofs.lemmas.List.{append-nil, append_assoc, drop-drop, drop-take, drop_all, drop_at, drop_more, get_or-drop, get_or_default, length-map, length-take, map-append, take-append-drop, take-append-le, take-take, take_all, take_at, take_more}
+pub use Rattle.std.proofs.lemmas.List.{append-nil, append_assoc, drop-drop, drop-map, drop-take, drop_all, drop_at, drop_more, get_or-drop, get_or_default, length-map, length-take, map-append, take-append-drop, take-append-le, take-map, take-take, take_all, take_at, take_more}
 pub use Rattle.std.proofs.lemmas.List.Elements.{All-append, All-cons, All-drop, All-head, All-more, All-nil, All-tail, All-take, filter-append}
 pub use Rattle.std.proofs.lemmas.List.Folds.{Any-from_list_any, list_any_at}
 pub use Rattle.std.proofs.lemmas.List.Sums.{count_by-le-length, fails_before_first, length-filter, passes_at_first, prefix_len-le-length, sum_by-append, sum_by-cons, sum_by-take-le, sum_by_push}
@@ -38,3 +38,4 @@ pub use Rattle.lexer.specs.declared.sums.Sums.{Sums}
 pub use Rattle.lexer.specs.declared.sums.Token.{Token}
 pub use Rattle.seqtree.specs.Monoid.{total}
 pub use Rattle.seqtree.specs.Saturated.{saturated, saturated-exact}
+pub use Rattle.std.proofs.lemmas.Grind.{common_steps}

@@ -1,14 +1,12 @@
 -- The tokens after a rescan are those of the edited text, and the kept ones are those that the edit keeps.
-use Rattle.lexer.proofs.Common.{chars, prefix_before, leads_tokens, cases_lt, and_parts, leb-true, false≢true, append_assoc, map-append, length-take, take_all, take_at, drop_at, take-append-le, passes_at_first, fails_before_first, sum_by-append, All-append, All-take, All-drop, Edit, edit, AreTokens, boundaries, is_skipped, kinds, kept_before, is_rejoined, rejoin, same_kinds, gone, made_by, IsSpliced, Splice, splice, length-boundaries, AreTokens-drop, drop-edit, Lexicon, Token, kind_in, plain, is_significant, characters, Fits, plain_all, prefix_end, significant_kinds, change, IsEdited, IsRemade, AreRescanned, AreTokensAfter, Kind}
-use Rattle.std.proofs.Common.{arith, refl, sym, ap, subst, inl, inr, ◌∙◌, length-append, length-drop, ◌≡◌, ℕ, zero, suc, ◌+◌, ◌-◌, ◌<◌, ◌≤◌, ◌⊎◌, ◌^◌, true, false, List, [], ◌∷◌, ◌++◌, length, take, drop, slice_range, slice_index_or, All, count_by, if◌then◌else◌}
+use Rattle.lexer.proofs.Common.{drop-map, chars, prefix_before, leads_tokens, cases_lt, and_parts, leb-true, false≢true, append_assoc, map-append, length-take, take_all, take_at, drop_at, take-append-le, passes_at_first, fails_before_first, sum_by-append, All-append, All-take, All-drop, Edit, edit, AreTokens, boundaries, is_skipped, kinds, kept_before, is_rejoined, rejoin, same_kinds, gone, made_by, IsSpliced, Splice, splice, length-boundaries, AreTokens-drop, drop-edit, Lexicon, Token, kind_in, plain, is_significant, characters, Fits, plain_all, prefix_end, significant_kinds, change, IsEdited, IsRemade, AreRescanned, AreTokensAfter, Kind}
+use Rattle.std.proofs.Common.{arith, refl, sym, ap, subst, inl, inr, ◌∙◌, length-append, length-drop, ◌≡◌, ℕ, ◌+◌, ◌-◌, ◌<◌, ◌≤◌, ◌⊎◌, ◌^◌, true, false, List, [], ◌++◌, length, take, drop, slice_range, slice_index_or, All, count_by, if◌then◌else◌}
 use Rattle.lexer.proofs.SignificantKinds.{length-kinds, kinds_plain, count_range, spliced_kinds}
 use Rattle.lexer.proofs.Boundaries.{length-plain, boundary_at}
 use Rattle.lexer.proofs.Remakes.{chars-plain, plain-take, all_lead, many as kept_length, not_before, tokens_length}
 
 plain-drop : (n : ℕ) (xs : List Token) → plain_all (drop n xs) ≡ drop n (plain_all xs)
-plain-drop zero xs = refl
-plain-drop (suc n) [] = refl
-plain-drop (suc n) (x ∷ xs) = plain-drop n xs
+plain-drop n xs = sym (drop-map plain n xs)
 
 -- places of a list of kinds that give way to others, unless these are the same
 abbrev replaced : ℕ → ℕ → List Kind → List Kind → Splice
@@ -173,12 +171,7 @@ module _ (lexicon : Lexicon) (e : Edit) (items : List Token) (u : List ℕ) (h :
       ∙ kinds_plain lexicon.skips made r.anew.marked in
       let sum : count_by is_significant (take to items) ≡ length (kinds lexicon.skips (take place (plain_all items))) + length (kinds lexicon.skips (gone e (plain_all items) (plain_all new))) =
       omega (arith, from, ap length before, count_range items place to (prefix_to f)) in
-      ap (λ n. replaced n (count_by is_significant (take to items)) (significant_kinds (slice_range items place to)) (significant_kinds made)) (sym from)
-      ∙ ap (λ n. replaced (length (kinds lexicon.skips (take place (plain_all items)))) n (significant_kinds (slice_range items place to)) (significant_kinds made)) sum
-      ∙ ap (λ ks. replaced (length (kinds lexicon.skips (take place (plain_all items)))) (length (kinds lexicon.skips (take place (plain_all items))) + length
-      (kinds lexicon.skips (gone e (plain_all items) (plain_all new)))) ks (significant_kinds made)) (sym before)
-      ∙ ap (λ ks. replaced (length (kinds lexicon.skips (take place (plain_all items)))) (length (kinds lexicon.skips (take place (plain_all items))) + length
-      (kinds lexicon.skips (gone e (plain_all items) (plain_all new)))) (kinds lexicon.skips (gone e (plain_all items) (plain_all new))) ks) (sym after)
+      λ i. replaced (sym from i) (sum i) (sym before i) (sym after i)
 
   -- so they are the tokens after the edit
   pub remade_after : (n : ℕ) (s : Splice) → Fits items → s ≡ change items (kept_before e (plain_all items)) to (significant_kinds made)

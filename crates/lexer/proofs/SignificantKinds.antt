@@ -3,6 +3,9 @@ use Rattle.std.proofs.Common.{arith, refl, sym, ap, subst, ◌∙◌, slice_rang
 use Rattle.lexer.proofs.Common.{append_assoc, drop_at, drop-take, length-map, map-append, take_at, take-append-drop, take-take, length-filter, tail-eq_of_cons-eq, head-eq_of_cons-eq, YieldsFirst, and_parts, eqb-true, Kind, Rule, Invalid, IsSpliced, same_kind, same_kinds, Token, kind_in, is_significant, kinds, is_skipped, All-head, All-tail, filter-append, significant_kinds, plain_all, change}
 use Rattle.lexer.proofs.Totals.{count-cons}
 
+count_first : (s : Bool) (x : Token) (xs : List Token) → x.skipped ≡ s → count_by is_significant (x ∷ xs) ≡ (if s then 0 else 1) + count_by is_significant xs
+count_first s x xs e = subst (λ b. count_by is_significant (x ∷ xs) ≡ (if b then 0 else 1) + count_by is_significant xs) e (count-cons x xs)
+
 -- the kind of the significant token that has k before it
 kind_from : (xs : List Token) (p k : ℕ) (x : Token) → slice_get xs p ≡ Some x → count_by is_significant (take p xs) ≡ k
     → count_by is_significant (take (suc p) xs) ≡ k + 1 → slice_index_or (significant_kinds xs) k Invalid ≡ kind_in x
@@ -13,7 +16,7 @@ kind_from (y ∷ xs) zero k x is a b = go y.skipped refl
     same = cc
 
     go : (s : Bool) → y.skipped ≡ s → slice_index_or (significant_kinds (y ∷ xs)) k Invalid ≡ kind_in x
-    go true e = absurd (omega (arith, count-cons y [], subst (λ s. count_by is_significant (y ∷ []) ≡ (if s then 0 else 1) + 0) e (count-cons y []), a, b))
+    go true e = absurd (omega (arith, count_first true y [] e, a, b))
     go false e = let z : k ≡ 0 = omega (arith, a) in rw (z, e) (ap kind_in same)
 kind_from (y ∷ xs) (suc p) k x is a b = go y.skipped refl k a b (λ j c d. kind_from xs p j x is c d)
   where
@@ -21,21 +24,10 @@ kind_from (y ∷ xs) (suc p) k x is a b = go y.skipped refl k a b (λ j c d. kin
         → ((j : ℕ) → count_by is_significant (take p xs) ≡ j → count_by is_significant (take (suc p) xs) ≡ j + 1 → slice_index_or (significant_kinds xs) j Invalid ≡ kind_in x)
         → slice_index_or (significant_kinds (y ∷ xs)) k Invalid ≡ kind_in x
     go true e k a b later =
-        let one : count_by is_significant (y ∷ take p xs) ≡ 0 + count_by is_significant (take p xs) =
-        subst (λ s. count_by is_significant (y ∷ take p xs) ≡ (if s then 0 else 1) + count_by is_significant (take p xs)) e (count-cons y (take p xs)) in
-        let two : count_by is_significant (y ∷ take (suc p) xs) ≡ 0 + count_by is_significant (take (suc p) xs) =
-        subst (λ s. count_by is_significant (y ∷ take (suc p) xs) ≡ (if s then 0 else 1) + count_by is_significant (take (suc p) xs)) e (count-cons y (take (suc p) xs)) in
-        rw e (later k (omega (arith, one, a)) (omega (arith, two, b)))
-    go false e zero a b later =
-        let one : count_by is_significant (y ∷ take p xs) ≡ 1 + count_by is_significant (take p xs) =
-        subst (λ s. count_by is_significant (y ∷ take p xs) ≡ (if s then 0 else 1) + count_by is_significant (take p xs)) e (count-cons y (take p xs)) in
-        absurd (omega (arith, one, a))
+        rw e (later k (omega (arith, count_first true y (take p xs) e, a)) (omega (arith, count_first true y (take (suc p) xs) e, b)))
+    go false e zero a b later = absurd (omega (arith, count_first false y (take p xs) e, a))
     go false e (suc k) a b later =
-        let one : count_by is_significant (y ∷ take p xs) ≡ 1 + count_by is_significant (take p xs) =
-        subst (λ s. count_by is_significant (y ∷ take p xs) ≡ (if s then 0 else 1) + count_by is_significant (take p xs)) e (count-cons y (take p xs)) in
-        let two : count_by is_significant (y ∷ take (suc p) xs) ≡ 1 + count_by is_significant (take (suc p) xs) =
-        subst (λ s. count_by is_significant (y ∷ take (suc p) xs) ≡ (if s then 0 else 1) + count_by is_significant (take (suc p) xs)) e (count-cons y (take (suc p) xs)) in
-        rw e (later k (omega (arith, one, a)) (omega (arith, two, b)))
+        rw e (later k (omega (arith, count_first false y (take p xs) e, a)) (omega (arith, count_first false y (take (suc p) xs) e, b)))
 
 pub kind_at : (xs : List Token) (p k : ℕ) (x : Token) → slice_get xs p ≡ Some x → count_by is_significant (take p xs) ≡ k
     → count_by is_significant (take (p + 1) xs) ≡ k + 1 → slice_index_or (significant_kinds xs) k Invalid ≡ kind_in x
@@ -88,8 +80,7 @@ none_left (k ∷ ks) = sym (decided (nat_eq (length (k ∷ ks)) 0) (λ e. let z 
 one_kind : (a b : Kind) → same_kind a b ≡ true → a ≡ b
 one_kind (Rule j) (Rule k) h = ap (λ n. Rule n) (eqb-true j k h)
 one_kind Invalid Invalid h = refl
-one_kind (Rule j) Invalid h = cc
-one_kind Invalid (Rule k) h = cc
+one_kind a b h = cc
 
 -- lists that the test takes for the same are the same
 pub same_list : (one two : List Kind) → same_kinds one two ≡ true → one ≡ two

@@ -1,6 +1,6 @@
 -- The sums of tokens are exact where they fit.
-use Rattle.std.proofs.Common.{arith, refl, sym, ap, subst, inl, inr, ◌∙◌, ◌≡◌, ◌≢◌, ℕ, zero, suc, ◌+◌, ◌<◌, ◌≤◌, ◌^◌, ◌⊎◌, Bool, true, false, not, List, [], ◌∷◌, length, take, count_by, All, IsTrue, nat_lt, if◌then◌else◌}
-use Rattle.lexer.proofs.Common.{cases_lt, ltb-true, ltb-false, take_all, take-take, count_by-le-length, sum_by-take-le, sum_by-cons, All-head, All-tail, total, saturated, saturated-exact, Sums, Token, most, no_tokens, joined, token_sum, is_significant, characters, Fits}
+use Rattle.std.proofs.Common.{arith, refl, sym, ap, subst, inl, inr, ◌∙◌, ◌≡◌, ℕ, zero, suc, ◌+◌, ◌<◌, ◌≤◌, ◌^◌, Bool, true, false, not, List, [], ◌∷◌, length, take, count_by, All, IsTrue, nat_lt, if◌then◌else◌}
+use Rattle.lexer.proofs.Common.{length-take, cases_lt, ltb-true, ltb-false, take_all, take-take, count_by-le-length, sum_by-take-le, sum_by-cons, All-head, All-tail, total, saturated, saturated-exact, Sums, Token, most, no_tokens, joined, token_sum, is_significant, characters, Fits}
 
 abbrev pub tot : List Token → Sums
 tot xs = total no_tokens joined token_sum xs
@@ -48,15 +48,10 @@ length-le-characters (x ∷ xs) h =
 pub few : (xs : List Token) → Fits xs → length xs ≤ 2 ^ 30
 few xs f = let n : length xs ≤ characters xs = length-le-characters xs f.nonempty in omega (arith, f.short)
 
-length-take-le' : (n : ℕ) (xs : List Token) → length (take n xs) ≤ length xs
-length-take-le' zero xs = omega arith
-length-take-le' (suc n) [] = omega arith
-length-take-le' (suc n) (x ∷ xs) = let h : length (take n xs) ≤ length xs = length-take-le' n xs in omega arith
-
 -- the same of the first n
 pub take_significant : (n : ℕ) (xs : List Token) → Fits xs → (tot (take n xs)).significant ≡ count_by is_significant (take n xs)
 take_significant n xs f =
-    let short : length (take n xs) ≤ length xs = length-take-le' n xs in
+    let short : length (take n xs) ≤ length xs = omega (arith, length-take n xs) in
     let all : length xs ≤ 2 ^ 30 = few xs f in
     total_significant (take n xs) (omega arith)
 

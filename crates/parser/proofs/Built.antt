@@ -28,8 +28,7 @@ module _ (s : Splice) (old : List Tree) where
         p = i.p;
         us = i.us;
         kept = kept_at (let z : 0 + place_of i.at ≡ place_of i.at = omega arith in z) i.kept;
-        stands =
-            subst (λ l. StandsIn l i.at (Branch i.p i.us)) e i.stands;
+        stands = subst (λ l. StandsIn l i.at (Branch i.p i.us)) e i.stands;
         inner = i.inner;
         way = i.way;
         is = i.is;
@@ -42,8 +41,7 @@ module _ (s : Splice) (old : List Tree) where
         p = i.p;
         us = i.us;
         kept = kept_at (let z : place_of i.at ≡ 0 + place_of i.at = omega arith in z) i.kept;
-        stands =
-            subst (λ l. StandsIn l i.at (Branch i.p i.us)) (sym e) i.stands;
+        stands = subst (λ l. StandsIn l i.at (Branch i.p i.us)) (sym e) i.stands;
         inner = i.inner;
         way = i.way;
         is = i.is;

@@ -4,7 +4,7 @@ pub use mathlib.Core.List.{head-eq_of_cons-eq, tail-eq_of_cons-eq}
 pub use Rattle.std.proofs.Math.Seq.{drop-append_seam, get_or-append_seam, take-append-add, take-append_seam}
 pub use Rattle.std.proofs.lemmas.Bool.{cases_lt, eq-eqb, eqb-true}
 pub use Rattle.std.proofs.lemmas.Grind.{common_steps}
-pub use Rattle.std.proofs.lemmas.List.{append-nil, append_cancel_right, drop-append-le, drop_all, get_or_append_left, take-append-le, take_all, take_at, take_more}
+pub use Rattle.std.proofs.lemmas.List.{append-nil, append_cancel_right, drop-append-le, drop_all, get_or_append_left, nil_from_length, take-append-le, take_all, take_at, take_more}
 pub use Rattle.std.proofs.lemmas.Option.{slice_get_past, slice_get_within}
 pub use Rattle.definitions.specs.DocumentNodes.{AreDocumentTrees, IsNodeOf}
 pub use Rattle.definitions.specs.Items.{Accept, HasItem, HasMove, HasNoConflict, Move, Reduce, Shift}

@@ -1,8 +1,8 @@
 -- What a cut of a list of trees keeps of them: their kinds, their nodes, and what holds of each.
 use Rattle.std.proofs.Common.{◌≡◌, ◌⊎◌, ℕ, ◌+◌, ◌<◌, ◌≤◌, zero, suc, get_or, min, List, [], ◌∷◌, ◌++◌, length, refl, sym, ap, ◌∙◌, subst, inl, inr, ⊎_elim, arith, append_assoc, length-append}
-use Rattle.parser.proofs.Common.{Grammar, Tree, Forest, Leaf, Branch, trees, yield, yields, all_kinds, StandsIn, Top, Below, Past, place_of, plain, plain_trees, kinds-append, kinds-trees, stands_in_prefix, stands_after, closed, branches-append, branches-trees, NodeId, Child, Node, Cell, AreBelow, all_trees, most, tree, trees_from, all_below-more, plain_of, AreParts, ComeFrom, AreOlder, kinds_in, AreChildren, IsSplitAt, Here, Used_up, Whole}
+use Rattle.parser.proofs.Common.{Grammar, Tree, Forest, Leaf, Branch, trees, yield, yields, all_kinds, StandsIn, Top, Below, Past, place_of, plain, plain_trees, stands_in_prefix, stands_after, closed, NodeId, Child, Node, Cell, AreBelow, all_trees, most, tree, trees_from, all_below-more, plain_of, AreParts, ComeFrom, AreOlder, kinds_in, AreChildren, IsSplitAt, Here, Used_up, Whole}
 use Rattle.parser.specs.Cuts.{Opened}
-use Rattle.parser.proofs.LeftEdge.{open_parts, weight}
+use Rattle.parser.proofs.LeftEdge.{branch_lighter, kinds_opened, open_parts, weight}
 use Rattle.parser.proofs.Reductions.{below-append, plain-append, plain-children, kids_of}
 use Rattle.parser.proofs.WhereBranchesComeFrom.{come_all, come_older, come_on, come_past, opened_came}
 use Rattle.parser.proofs.Stamping.{stamped_after, stamped_before, stamped_split, trees_of-append}
@@ -47,22 +47,10 @@ opened_aside : (p : ℕ) (us : Forest) (ts two : List Tree) (n : ℕ) → 0 < n 
 opened_aside p us ts two n some less h lefts t Top k a = absurd (⊎_elim (λ x. omega (arith, x, less)) (λ x. omega (arith, x, some)) a)
 opened_aside p us ts two n some less h lefts t (Below w) k a = h lefts t (stands_in_prefix ts w) k a
 opened_aside p us ts two n some less h lefts t (Past {lefts = inner} w) k a =
-    let same : all_kinds (trees us ++ inner) ≡ yields us ++ all_kinds inner = kinds-append (trees us) inner ∙ ap (λ l. l ++ all_kinds inner) (kinds-trees us) in
+    let same = kinds_opened us inner in
     let aside : IsAside n (trees us ++ inner) t = ⊎_elim (λ x. inl (omega (arith, x, ap length same))) (λ x. inr (omega (arith, x, ap length same))) a in
     let r = h (trees us ++ inner) t (stands_after (trees us) w) k aside in
     (r.0, r.1, r.2 ∙ same)
-
-branch_lighter : (p : ℕ) (us : Forest) (ts : List Tree) → weight (trees us ++ ts) < weight (Branch p us ∷ ts)
-branch_lighter p us ts =
-    omega (
-      arith,
-      branches-append (trees us) ts,
-      branches-trees us,
-      ap length (kinds-append (trees us) ts),
-      ap length (kinds-trees us),
-      length-append (all_kinds (trees us)) (all_kinds ts),
-      length-append (yields us) (all_kinds ts),
-    )
 
 pub taken_lighter : (t : Tree) (ts : List Tree) → weight ts < weight (t ∷ ts)
 taken_lighter (Leaf k) ts = omega arith
@@ -94,7 +82,7 @@ module _ (cells : List Cell) where
     opened_lighter cs = over (λ one two. weight one < weight two) cs (branch_lighter of_id.production us (plain_of cells cs))
 
     pub opened_kinds : (cs : List Child) → all_kinds (plain_of cells (kids ++ cs)) ≡ all_kinds (plain_of cells (Node id ∷ cs))
-    opened_kinds cs = over (λ one two. all_kinds one ≡ all_kinds two) cs (kinds-append (trees us) (plain_of cells cs) ∙ ap (λ l. l ++ all_kinds (plain_of cells cs)) (kinds-trees us))
+    opened_kinds cs = over (λ one two. all_kinds one ≡ all_kinds two) cs (kinds_opened us (plain_of cells cs))
 
     opened_parts : (g : Grammar) (cs : List Child) → AreParts g (plain_of cells (Node id ∷ cs)) → AreParts g (plain_of cells (kids ++ cs))
     opened_parts g cs = over (λ one two. AreParts g two → AreParts g one) cs (open_parts g of_id.production us (plain_of cells cs))

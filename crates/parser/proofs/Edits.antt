@@ -92,8 +92,7 @@ module _ (t : Sets) (accepted : IsAccepted t.grammar) (kinds : List Kind) (whole
             us = k.1;
             kept = k.3;
             stands = subst (λ u. StandsIn (plain_trees new) in'.0 u) k.2 k.4;
-            inner =
-                in'.2;
+            inner = in'.2;
             way = subst (λ u. StandsIn (u ∷ []) in'.2 (Branch p (plain_all us))) k.2 in'.4;
             is = in'.5;
           }

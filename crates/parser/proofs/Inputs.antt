@@ -1,6 +1,6 @@
 -- What is taken from the start of the input, and put back there.
 use Rattle.std.proofs.Common.{◌≡◌, ℕ, ◌-◌, ◌<◌, ◌≤◌, min, List, [], ◌∷◌, ◌++◌, length, drop, Option, Some, None, MatchOption, refl, sym, ap, ◌∙◌, arith, length-append, append_assoc}
-use Rattle.parser.proofs.Common.{tail-eq_of_cons-eq, head-eq_of_cons-eq, drop-append_seam, append-nil, Kind, all_kinds, yield, StampedBranch, plain, plain_all, kinds-append, kinds-trees, Child, Node, NodeId, Cell, AreBelow, most, tree, trees_from, forest_of, BeginsWith, IsFull, IsOpened, Skips, plain_of}
+use Rattle.parser.proofs.Common.{tail-eq_of_cons-eq, head-eq_of_cons-eq, drop-append_seam, append-nil, all_kinds, yield, StampedBranch, plain, plain_all, kinds-append, kinds-trees, Child, Node, NodeId, Cell, AreBelow, most, tree, trees_from, forest_of, BeginsWith, IsFull, IsOpened, Skips, plain_of, nil_from_length}
 use Rattle.parser.proofs.Reductions.{plain-append, plain-children}
 
 pub taken : (r : Option Child) (old new rest : List Child) (c : Child) → MatchOption r ((old ≡ []) × (new ≡ [])) (λ x. old ≡ x ∷ new) → old ≡ c ∷ rest → old ≡ c ∷ new
@@ -15,10 +15,6 @@ pub still_empty : (before now : List Child) → before ≡ [] → IsOpened befor
 still_empty [] now e h = h
 still_empty (d ∷ ds) now e h = absurd (cc e)
 
-pub no_kinds : (x : List Kind) → length x ≡ 0 → x ≡ []
-no_kinds [] e = refl
-no_kinds (k ∷ x) e = absurd (omega (arith, e))
-
 pub none_counted : (n : ℕ) → min most n ≡ 0 → n ≡ 0
 none_counted n h = grind (arith, h)
 
@@ -30,7 +26,7 @@ skips_one cells old now new c h e empty = (h.0 ++ (c ∷ []), h.1 ∙ ap (λ l. 
     moved (d ∷ gone) = ap (λ l. d ∷ l) (moved gone)
 
     none : (gone : List Child) → all_kinds (plain_of cells (gone ++ (c ∷ []))) ≡ all_kinds (plain_of cells gone)
-    none [] = ap (λ l. l ++ []) (no_kinds (yield (plain (tree cells c))) empty)
+    none [] = ap (λ l. l ++ []) (nil_from_length (yield (plain (tree cells c))) empty)
     none (d ∷ gone) = ap (λ l. yield (plain (tree cells d)) ++ l) (none gone)
 
 pub below-gone : (n : ℕ) (gone new : List Child) → AreBelow n (gone ++ new) → AreBelow n new

@@ -1,7 +1,6 @@
 -- The left edge of the input, opened step by step.
 use Rattle.std.proofs.Common.{◌≡◌, ℕ, ◌+◌, ◌<◌, ◌≤◌, zero, suc, List, [], ◌∷◌, ◌++◌, length, drop, refl, sym, ap, ◌∙◌, subst, arith, append_assoc, length-append, length-drop}
-use Rattle.parser.proofs.Common.{Kind, Symbol, Terminal, Nonterminal, Grammar, Tree, Leaf, Branch, Forest, Nil, Cons, trees, IsTree, AreTrees, HaveRoots, yield, yields, all_kinds, branches, all_branches, StampedBranch, plain, plain_all, kinds-append, kinds-trees, branches-append, branches-trees, CanReuse, Tries, Dropped, Opened, Child, NodeId, Node, Cell, tree, trees_from, forest_of, plain_of, leaves, before_leaves, AreParts, IsPart, Offers}
-use Rattle.parser.proofs.Inputs.{no_kinds}
+use Rattle.parser.proofs.Common.{Kind, Symbol, Terminal, Nonterminal, Grammar, Tree, Leaf, Branch, Forest, Nil, Cons, trees, IsTree, AreTrees, HaveRoots, yield, yields, all_kinds, branches, all_branches, StampedBranch, plain, plain_all, kinds-append, kinds-trees, branches-append, branches-trees, CanReuse, Tries, Dropped, Opened, Child, NodeId, Node, Cell, tree, trees_from, forest_of, plain_of, leaves, before_leaves, AreParts, IsPart, Offers, nil_from_length}
 use Rattle.parser.proofs.Reductions.{plain-append, plain-children}
 
 -- how much there is to open or to drop
@@ -54,11 +53,18 @@ empty_branch : (t : Tree) → length (yield t) ≡ 0 → 0 < branches t
 empty_branch (Leaf k) e = absurd (omega (arith, e))
 empty_branch (Branch p us) e = omega arith
 
+-- the kinds of a node's trees, and of what stands after them
+pub kinds_opened : (us : Forest) (ts : List Tree) → all_kinds (trees us ++ ts) ≡ yields us ++ all_kinds ts
+kinds_opened us ts = kinds-append (trees us) ts ∙ ap (λ l. l ++ all_kinds ts) (kinds-trees us)
+
+-- they weigh less than the node does
+pub branch_lighter : (p : ℕ) (us : Forest) (ts : List Tree) → weight (trees us ++ ts) < weight (Branch p us ∷ ts)
+branch_lighter p us ts = omega (arith, branches-append (trees us) ts, branches-trees us, ap length (kinds_opened us ts), length-append (yields us) (all_kinds ts))
+
 module _ (g : Grammar) (stack : List Tree) (kinds : List Kind) (read : ℕ) where
   seen_open : (us : Forest) (ts : List Tree) → before_leaves (trees us ++ ts) kinds read ≡ trees us ++ (ts ++ leaves (drop (read + length (yields us ++ all_kinds ts)) kinds))
   seen_open us ts =
-      let e : all_kinds (trees us ++ ts) ≡ yields us ++ all_kinds ts = kinds-append (trees us) ts ∙ ap (λ l. l ++ all_kinds ts) (kinds-trees us) in
-      append_assoc (trees us) ts (leaves (drop (read + length (all_kinds (trees us ++ ts))) kinds)) ∙ ap (λ l. trees us ++ (ts ++ leaves (drop (read + length l) kinds))) e
+      append_assoc (trees us) ts (leaves (drop (read + length (all_kinds (trees us ++ ts))) kinds)) ∙ ap (λ l. trees us ++ (ts ++ leaves (drop (read + length l) kinds))) (kinds_opened us ts)
 
   open_step : (p : ℕ) (us : Forest) (ts : List Tree) → AreParts g (Branch p us ∷ ts) → all_kinds (before_leaves (Branch p us ∷ ts) kinds read) ≡ drop read kinds
       → (CanReuse g stack (Branch p us) (drop (read + length (yields us)) kinds) → ⊥) → Step g stack kinds read (trees us ++ ts) (Branch p us ∷ ts)
@@ -67,22 +73,14 @@ module _ (g : Grammar) (stack : List Tree) (kinds : List Kind) (read : ℕ) wher
       let after : all_kinds rest ≡ drop (read + length (yields us)) kinds = after_drop (yields us) (all_kinds rest) kinds read covers in
       let shape = seen_open us ts in (
         open_parts g p us ts parts,
-        ap all_kinds shape ∙ kinds-append (trees us) rest ∙ ap (λ l. l ++ all_kinds rest) (kinds-trees us) ∙ covers,
+        ap all_kinds shape ∙ kinds_opened us rest ∙ covers,
         (λ f d. Opened (subst (λ l. CanReuse g stack (Branch p us) l → ⊥) (sym after) fails) (subst (λ l. Tries g stack l f) shape d)),
-        omega (
-          arith,
-          branches-append (trees us) ts,
-          branches-trees us,
-          ap length (kinds-append (trees us) ts),
-          ap length (kinds-trees us),
-          length-append (all_kinds (trees us)) (all_kinds ts),
-          length-append (yields us) (all_kinds ts),
-        ),
+        branch_lighter p us ts,
       )
 
   drop_step : (t : Tree) (ts : List Tree) → AreParts g (t ∷ ts) → all_kinds (before_leaves (t ∷ ts) kinds read) ≡ drop read kinds → length (yield t) ≡ 0 → Step g stack kinds read ts (t ∷ ts)
   drop_step t ts parts covers empty =
-      let none = no_kinds (yield t) empty in
+      let none = nil_from_length (yield t) empty in
       let shape : before_leaves (t ∷ ts) kinds read ≡ t ∷ before_leaves ts kinds read = ap (λ y. t ∷ (ts ++ leaves (drop (read + length (y ++ all_kinds ts)) kinds))) none in (
         parts.1,
         sym (ap all_kinds shape ∙ ap (λ l. l ++ all_kinds (before_leaves ts kinds read)) none) ∙ covers,

@@ -1,7 +1,8 @@
 -- The old trees, with the new kinds between the parts that a splice leaves of them.
-use Rattle.std.proofs.Common.{◌≡◌, ◌≢◌, ◌⊎◌, ℕ, ◌+◌, ◌-◌, ◌<◌, ◌≤◌, List, [], ◌∷◌, ◌++◌, length, refl, sym, ap, ◌∙◌, subst, inl, inr, ⊎_elim, arith, length-append}
-use Rattle.parser.proofs.Common.{head-eq_of_cons-eq, tail-eq_of_cons-eq, cases_lt, append-nil, Kind, Tree, Forest, Leaf, Branch, yields, all_kinds, StandsIn, Top, Below, Past, place_of, Splice, IsKept, IsMoved, IsTouched, IsPrepared, kinds-append, nowhere, stands_after, stands_in_prefix, stands_split, stands_length, Child, Cell, plain_of, leaves, IsSplitAt}
+use Rattle.std.proofs.Common.{◌≡◌, ◌≢◌, ◌⊎◌, ℕ, ◌+◌, ◌-◌, ◌<◌, ◌≤◌, List, [], ◌∷◌, ◌++◌, length, refl, sym, ap, ◌∙◌, subst, inl, inr, ⊎_elim, arith}
+use Rattle.parser.proofs.Common.{head-eq_of_cons-eq, tail-eq_of_cons-eq, cases_lt, append-nil, Kind, Tree, Forest, Leaf, Branch, yields, all_kinds, StandsIn, Top, Below, Past, place_of, Splice, IsKept, IsMoved, IsTouched, IsPrepared, nowhere, stands_after, stands_in_prefix, stands_split, stands_length, Child, Cell, plain_of, leaves, IsSplitAt}
 use Rattle.parser.proofs.Running.{kinds_leaves}
+use Rattle.parser.proofs.WhereBranchesComeFrom.{place-append}
 use Rattle.parser.proofs.Cuts.{cut_from, cut_keeps, cut_kinds}
 
 leaf_is_branch : (k : Kind) (p : ℕ) (us : Forest) → Leaf k ≡ Branch p us → ⊥
@@ -16,9 +17,6 @@ no_branch_in (k ∷ ks) (Past w) e f = no_branch_in ks w (tail-eq_of_cons-eq e) 
 
 pub no_branch : (ks : List Kind) {lefts : List Tree} {p : ℕ} {us : Forest} → StandsIn (leaves ks) lefts (Branch p us) → ⊥
 no_branch ks w = no_branch_in ks w refl refl
-
-pub place-append : (one two : List Tree) → place_of (one ++ two) ≡ place_of one + place_of two
-place-append one two = ap length (kinds-append one two) ∙ length-append (all_kinds one) (all_kinds two)
 
 -- the kinds before a node that stands after these trees
 split_place : (prefix more at lefts : List Tree) → all_kinds at ≡ all_kinds lefts → at ≡ prefix ++ more → place_of prefix + place_of more ≡ place_of lefts

@@ -6,7 +6,8 @@ use Rattle.parser.proofs.LeftEdge.{parts-append}
 use Rattle.parser.proofs.Reductions.{below-append, plain-append}
 use Rattle.parser.proofs.Stamping.{nowhere_stamped, stamped_after, stamped_before, stamped_split, trees_of-append}
 use Rattle.parser.proofs.Cuts.{cut_after, cut_below, cut_came, cut_kinds, cut_older, cut_parts, older-append}
-use Rattle.parser.proofs.Prepared.{no_branch, place-append, prepared_short, prepared_within}
+use Rattle.parser.proofs.WhereBranchesComeFrom.{place-append}
+use Rattle.parser.proofs.Prepared.{no_branch, prepared_short, prepared_within}
 
 -- new has the new kinds in the place of what the splice takes away of the old trees, or what there is of these where they end
 -- before the splice

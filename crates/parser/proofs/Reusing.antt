@@ -50,8 +50,7 @@ module _ (t : Sets) (stack : List Tree) (states : List ℕ) (h : HasStates t sta
         symbols = h.symbols;
         roots = h.roots;
         move = plain_move a;
-        called =
-            subst (λ l. HasMove t.grammar (h.symbols ++ (Nonterminal left ∷ [])) l (plain_move a)) e k;
+        called = subst (λ l. HasMove t.grammar (h.symbols ++ (Nonterminal left ∷ [])) l (plain_move a)) e k;
       }
 
   -- the state after the tree, whatever the symbols are called

@@ -167,8 +167,7 @@ module _ (t : Sets) (whole : List Tree) (kinds : List Kind) (before number : ℕ
         made = omega (
           arith,
           ap (all_branches_by number) (trees_of-append (trees_from [] cells) stack (Node id ∷ [])),
-          by-append number (all_trees cells stack)
-              (tree cells (Node id) ∷ []),
+          by-append number (all_trees cells stack) (tree cells (Node id) ∷ []),
           by-none number (tree cells (Node id)) first,
           h.made,
           makes_join g h.run step,
@@ -240,14 +239,12 @@ module _ (t : Sets) (whole : List Tree) (kinds : List Kind) (before number : ℕ
         symbols = r.symbols;
         roots = subst (λ l. HaveRoots g l r.symbols) h.top_is r.roots;
         number = r.number;
-        called =
-            subst (λ l. HasMove g r.symbols l (Reduce r.number)) look r.called;
+        called = subst (λ l. HasMove g r.symbols l (Reduce r.number)) look r.called;
         below = r.below;
         ts = r.ts;
         left = r.left;
         right = r.right;
-        production =
-            r.production;
+        production = r.production;
         size = r.size;
         from_is = sym h.top_is ∙ r.from_is;
         to_is = r.to_is;
@@ -279,8 +276,7 @@ module _ (t : Sets) (whole : List Tree) (kinds : List Kind) (before number : ℕ
         whole_is = h.whole_is;
         input = record {
           below = all_below-more (length cells) (length new) (omega (arith, long)) rest' input'.below;
-          parts =
-              subst (AreParts g) (sym stays) input'.parts;
+          parts = subst (AreParts g) (sym stays) input'.parts;
           covers = ap all_kinds same ∙ input'.covers;
         };
         now = h.now;
@@ -297,8 +293,7 @@ module _ (t : Sets) (whole : List Tree) (kinds : List Kind) (before number : ℕ
           ap (all_branches_by number) parts,
           by-append number (all_trees cells under) (StampedBranch p number f ∷ []),
           by-append number (all_trees cells under) (all_trees cells made.kids),
-          by-branch number p (all_trees cells made.kids) f
-              (stamped-children (trees_from [] cells) made.kids),
+          by-branch number p (all_trees cells made.kids) f (stamped-children (trees_from [] cells) made.kids),
           h.made,
           makes_join g h.run step,
         );

@@ -6,7 +6,7 @@ use Rattle.parser.proofs.Reductions.{below-prefix, plain-append}
 use Rattle.parser.proofs.Stamping.{in_branch, InBranch, Itself, Under, no_branch_in_leaf, nowhere_stamped, plain-stamped, stamped-children, stamped_after, stamped_before, stamped_split, trees_of-append}
 use Rattle.parser.proofs.Stamps.{grown_by_one, made_stamped, trees-stay}
 
-place-append : (one two : List Tree) → place_of (one ++ two) ≡ place_of one + place_of two
+pub place-append : (one two : List Tree) → place_of (one ++ two) ≡ place_of one + place_of two
 place-append one two = ap length (kinds-append one two) ∙ length-append (all_kinds one) (all_kinds two)
 
 -- ---- lists of trees
@@ -204,8 +204,7 @@ module _ (input : List Stamped) (before number : ℕ) (cells : List Cell) (stack
           h.place,
           ap (λ l. place_of (plain_trees l)) parts,
           ap (λ l. place_of (plain_trees l)) now_is,
-          place_trees (all_trees cells under)
-              (all_trees cells kids),
+          place_trees (all_trees cells under) (all_trees cells kids),
           place_trees (all_trees cells under) (node ∷ []),
           kinds,
           length-append (yields (plain_all f)) [],

@@ -5,6 +5,7 @@ pub use Rattle.std.specs.Char.{digit_value}
 pub use Rattle.std.specs.Str.{chars}
 pub use Rattle.std.specs.declared.alloc.Global.{Global}
 pub use Rattle.std.proofs.Math.Nat.{lt_trans, pow-le-pow_right}
+pub use Rattle.std.proofs.lemmas.Bool.{and_parts, both_ways, false_from_ne_true, not-true, or_left, or_parts, or_right}
 pub use Rattle.std.proofs.lemmas.Bool.Decides.{nat_tests}
 pub use Rattle.std.proofs.lemmas.List.{append-nil}
 pub use Rattle.std.proofs.lemmas.List.Elements.{recursion_from_All}
@@ -27,3 +28,4 @@ pub use Rattle.patterns.specs.Sound.{is_range, is_sound}
 pub use Rattle.patterns.specs.declared.characters.Character.{Character}
 pub use Rattle.patterns.specs.declared.refusals.Refusal.{Refusal}
 pub use Rattle.patterns.specs.declared.refusals.Refusal.TheVariants.{Fault, Memory}
+pub use Rattle.std.proofs.lemmas.Grind.{common_steps}

@@ -1,6 +1,6 @@
 -- A text and the characters that it writes.
-use Rattle.std.proofs.Common.{◌≡◌, ℕ, Bool, true, false, List, length, refl, sym, ◌∙◌, ap, subst, inl, inr, Some, None}
-use Rattle.patterns.proofs.Common.{Expression, MatchesEmpty, Written, written, Outside, Nothing, fault_from, first_fault, IsFault, Alt, SpellsAt, Spells, IsPattern, Refusal, Fault, Memory, matches_empty, is_sound, Reports, fault_at, writing, Character}
+use Rattle.std.proofs.Common.{◌≡◌, ℕ, true, false, List, length, refl, sym, ◌∙◌, ap, subst, inl, inr, Some, None}
+use Rattle.patterns.proofs.Common.{Expression, MatchesEmpty, Written, written, Outside, Nothing, fault_from, first_fault, IsFault, Alt, SpellsAt, Spells, IsPattern, Refusal, Fault, Memory, matches_empty, is_sound, Reports, fault_at, writing, Character, both_ways}
 use Rattle.patterns.proofs.WellMade.{well_made, empty_matched, empty_tested}
 
 -- ws is what the text t writes, and n its length
@@ -24,12 +24,9 @@ pub shown_empty : (r : Refusal) (e : Expression) (t : List ℕ) (n : ℕ) (ws : 
     → SpellsAt Alt 0 e ws → matches_empty e ≡ true → r ≡ fault_at 0 MatchesEmpty → Reports r (λ f. IsFault t f)
 shown_empty r e t n ws h g s m k = rw k (inr (first_of t n ws h ∙ g, refl, (e, spelled_text e t n ws h s, empty_matched e m)))
 
-apart : (b : Bool) → b ≡ true → b ≡ false → ⊥
-apart b e f = cc
-
 pub is_pattern : (e : Expression) (t : List ℕ) (n : ℕ) (ws : List Written) → IsWriting t n ws → SpellsAt Alt 0 e ws → is_sound e ≡ true → matches_empty e ≡ false → IsPattern t e
 is_pattern e t n ws h s g m =
-    record { spelled = spelled_text e t n ws h s; well_made = well_made e g; not_empty = λ q. apart (matches_empty e) (empty_tested e q) m }
+    record { spelled = spelled_text e t n ws h s; well_made = well_made e g; not_empty = λ q. both_ways (matches_empty e) m (empty_tested e q) }
 
 pub is_writing : (t items prefix : List ℕ) (words after : List Character) (n : ℕ) → items ≡ t → prefix ≡ items
     → writing words ≡ written 0 prefix → after ≡ words → n ≡ length items → IsWriting t n (writing after)

@@ -1,6 +1,6 @@
 -- An atom with its sign of repetition, and what goes on after it.
-use Rattle.std.proofs.Common.{◌≡◌, ℕ, zero, suc, ◌+◌, ◌-◌, ◌<◌, ◌==◌, ◌&&◌, ◌||◌, nat_lt, Bool, true, false, List, [], ◌∷◌, ◌++◌, length, refl, sym, ◌∙◌, ap, subst, append_assoc, add-one, arith, Some, None, Vec, Result, Ok, Err}
-use Rattle.patterns.proofs.Common.{IsErr, IsErrAnd, IfErr, nat_tests, Expression, Literal, Class, Interval, PatternFault, Global, Refusal, Fault, Memory, Written, Plain, Before, Outside, Nothing, AnAtom, ARepetition, fault_from, Level, Alt, Rep, Atom, SpellsAt, literal, class, group, writing, Begins, HasNoBlank, IsPart, IsRead, IsRepeated, IsAtEnd, IsLiteralPrefix, IsClassBody, Syntax, Reports, stops, append-nil, Character, is_sound}
+use Rattle.std.proofs.Common.{◌≡◌, ℕ, zero, suc, ◌+◌, ◌-◌, ◌<◌, ◌==◌, ◌&&◌, nat_lt, Bool, true, false, List, [], ◌∷◌, ◌++◌, length, refl, sym, ◌∙◌, ap, subst, append_assoc, add-one, arith, Some, None, Vec, Result, Ok, Err}
+use Rattle.patterns.proofs.Common.{IsErr, IsErrAnd, IfErr, nat_tests, Expression, Literal, Class, Interval, PatternFault, Global, Refusal, Fault, Memory, Written, Plain, Before, Outside, Nothing, AnAtom, ARepetition, fault_from, Level, Alt, Rep, Atom, SpellsAt, literal, class, group, writing, Begins, HasNoBlank, IsPart, IsRead, IsRepeated, IsAtEnd, IsLiteralPrefix, IsClassBody, Syntax, Reports, stops, append-nil, Character, is_sound, or_parts}
 use Rattle.patterns.proofs.Blanks.{Skips, blanks_after_part, blanks_skipped}
 use Rattle.patterns.proofs.Literals.{not_equal}
 
@@ -45,15 +45,11 @@ pub of_level : {l k : Level} {d n : ℕ} {after : Before} {words rest : List Cha
     → IsRead l d after n words rest e → IsRead k d after n words rest e
 of_level up h = record { spelled = (h.spelled.0, h.spelled.1, up h.spelled.0 h.spelled.2); sound = h.sound; shorter = h.shorter; goes_on = h.goes_on }
 
-or_no : (a b : Bool) → (a || b) ≡ false → (a ≡ false) × (b ≡ false)
-or_no true b h = cc
-or_no false b h = (refl, h)
-
 -- where a further part of a sequence must stand, it makes no difference what stands before
 pub no_stop : (n d : ℕ) (ws : List Written) → stops ws ≡ false → HasNoBlank ws → fault_from n (Outside d ARepetition) ws ≡ fault_from n (Outside d Nothing) ws
 no_stop n d [] h b = cc
 no_stop n d (Plain o c ∷ ws) h b =
-    let e = or_no (c == 124) (c == 41) h in
+    let e = or_parts (c == 124) (c == 41) h in
     rw (not_equal c 32 (λ q. b.0 (sym q)), not_equal c 9 (λ q. b.1 (sym q)), e.0, e.1) refl
 no_stop n d (w ∷ ws) h b = refl
 

@@ -1,8 +1,8 @@
 -- A text that spells a well made expression has no fault.
 use Rattle.std.proofs.Common.{◌≡◌, ◌≢◌, ◌⊎◌, inl, inr, ℕ, zero, suc, ◌-◌, ◌<◌, ◌≤◌, ◌==◌, nat_lt, nat_le, Bool, true, false, not, ◌||◌, List, [], ◌∷◌, ◌++◌, refl, sym, ◌∙◌, ap, subst, append_assoc, add-one, arith, length, Option, Some, None}
-use Rattle.patterns.proofs.Common.{PatternFault, append-nil, nat_tests, list_all, AllByRecursion, Interval, Expression, IsCharacter, is_member, is_within, is_in_class, Written, Plain, Escaped, BadEscape, written, IsFault, code_after, is_everything, is_nothing, Before, Nothing, AnAtom, ARepetition, is_something, Outside, InLiteral, InClass, Opened, Items, First, Dash, closed, fault_from, or_later, first_fault, Level, Alt, Seq, Rep, Atom, SpellsAt, choice, sequence, star, plus, optional, literal, class, group, one_seq, one_rep, one_atom, blank_before, blank_after, IsSign, IsBlank, IsLiteralRest, IsLiteral, IsItem, IsClassRest, IsClass, IsClassChar, IsWellMade, IsPattern, Spells, Begins, place}
+use Rattle.patterns.proofs.Common.{PatternFault, append-nil, nat_tests, list_all, AllByRecursion, Interval, Expression, IsCharacter, is_member, is_within, is_in_class, Written, Plain, Escaped, BadEscape, written, IsFault, code_after, is_everything, is_nothing, Before, Nothing, AnAtom, ARepetition, is_something, Outside, InLiteral, InClass, Opened, Items, First, Dash, closed, fault_from, or_later, first_fault, Level, Alt, Seq, Rep, Atom, SpellsAt, choice, sequence, star, plus, optional, literal, class, group, one_seq, one_rep, one_atom, blank_before, blank_after, IsSign, IsBlank, IsLiteralRest, IsLiteral, IsItem, IsClassRest, IsClass, IsClassChar, IsWellMade, IsPattern, Spells, Begins, place, and_parts, false_from_ne_true, or_left, or_right}
 use Rattle.patterns.proofs.Blanks.{blank_step}
-use Rattle.patterns.proofs.WellMade.{and_both, or_case, or_left, or_right, le_tested}
+use Rattle.patterns.proofs.WellMade.{or_case, le_tested}
 use Rattle.patterns.proofs.Unique.{one_meaning}
 use Rattle.patterns.proofs.Literals.{by_plain, eq_or_not, not_equal, literal_step, first_step, last_step, one_ends, no_caret, some_member}
 
@@ -191,9 +191,9 @@ within_true x i h g = grind (arith, nat_tests)
 found : (g : Interval → Bool) (c : ℕ) (is : List Interval) → is_member c is ≡ true → list_all g is ≡ true → Covers g c is
 found g c [] m a = cc
 found g c (i ∷ is) m a =
-    let both = and_both (g i) (list_all g is) a in
+    let both = and_parts (g i) (list_all g is) a in
     or_case (is_within c i) (is_member c is) m
-    (λ h. let w = and_both (nat_le i.first c) (nat_le c i.last) h in
+    (λ h. let w = and_parts (nat_le i.first c) (nat_le c i.last) h in
     (i, le_tested i.first c w.0, le_tested c i.last w.1, both.0, λ x p q. or_left (is_within x i) (is_member x is) (within_true x i p q)))
     (λ h. let r = found g c is h both.1 in (r.0, r.1, r.2, r.3, λ x p q. or_right (is_within x i) (is_member x is) (r.4 x p q)))
 
@@ -253,19 +253,15 @@ at_most c (inr h) = h.1
 
 everything : (is : List Interval) → is_everything is ≡ true → (c : ℕ) → IsCharacter c → is_member c is ≡ true
 everything is h c char =
-    let e = and_both (is_member 0 is) (list_all (is_followed is) is) h in
+    let e = and_parts (is_member 0 is) (list_all (is_followed is) is) h in
     passed_character is c char (passed is c e.0 e.1 (at_most c char))
 
 unlike : (b : Bool) → not b ≡ true → b ≡ true → ⊥
 unlike true h g = cc
 unlike false h g = cc
 
-decided : (b : Bool) → (b ≡ true → ⊥) → b ≡ false
-decided true h = absurd (h refl)
-decided false h = refl
-
 not_nothing : (negated : Bool) (is : List Interval) → (c : ℕ) × IsCharacter c × (is_in_class negated is c ≡ true) → is_nothing negated is ≡ false
-not_nothing true is (c, char, h) = decided (is_everything is) (λ e. unlike (is_member c is) h (everything is e c char))
+not_nothing true is (c, char, h) = false_from_ne_true (is_everything is) (λ e. unlike (is_member c is) h (everything is e c char))
 not_nothing false [] (c, char, h) = cc
 not_nothing false (i ∷ is) h = refl
 

@@ -1,15 +1,7 @@
 -- The tests of an expression decide what they are meant to.
 use Rattle.std.proofs.Common.{◌≡◌, ◌≢◌, inl, inr, ℕ, ◌+◌, ◌==◌, ◌≤◌, nat_le, Bool, true, false, not, ◌&&◌, ◌||◌, List, [], ◌∷◌, ◌++◌, refl, sym, ap, subst, arith, lit≤}
-use Rattle.patterns.proofs.Common.{nat_tests, list_all, concat, AllByRecursion, Interval, Expression, Literal, Class, Sequence', Choice', Star', Plus', Optional', IsCharacter, is_member, is_in_class, Matches, is_scalar, code_after, is_everything, is_nothing, IsWellMade, is_empty, matches_empty, is_range, is_sound}
+use Rattle.patterns.proofs.Common.{nat_tests, list_all, concat, AllByRecursion, Interval, Expression, Literal, Class, Sequence', Choice', Star', Plus', Optional', IsCharacter, is_member, is_in_class, Matches, is_scalar, code_after, is_everything, is_nothing, IsWellMade, is_empty, matches_empty, is_range, is_sound, and_parts, not-true, or_left, or_right}
 use Rattle.patterns.proofs.Literals.{eq_or_not, not_equal}
-
-pub and_both : (a b : Bool) → (a && b) ≡ true → (a ≡ true) × (b ≡ true)
-and_both true b h = (refl, h)
-and_both false b h = cc
-
-pub not_true : (a : Bool) → not a ≡ true → a ≡ false
-not_true true h = cc
-not_true false h = refl
 
 not_false : (a : Bool) → a ≡ false → not a ≡ true
 not_false a h = ap not h
@@ -34,15 +26,15 @@ gap_at : (all : List Interval) (i : Interval) (is : List Interval) → list_all 
 gap_at all i is r true b e f h later = later (rw e at h)
 gap_at all i is r false true e f h later = later (rw (e, f) at h)
 gap_at all i is r false false e f h later =
-    let g = and_both (is_range i) (list_all is_range is) r in
-    let k = and_both (is_scalar i.first) (is_scalar i.last && nat_le i.first i.last) g.0 in
-    (code_after i.last, next_character i.last (and_both (is_scalar i.last) (nat_le i.first i.last) k.1).0 e, f)
+    let g = and_parts (is_range i) (list_all is_range is) r in
+    let k = and_parts (is_scalar i.first) (is_scalar i.last && nat_le i.first i.last) g.0 in
+    (code_after i.last, next_character i.last (and_parts (is_scalar i.last) (nat_le i.first i.last) k.1).0 e, f)
 
 -- some character lies after an interval and in none
 gap : (all is : List Interval) → list_all is_range is ≡ true → list_all (λ i. i.last == 0x10_FFFF || is_member (code_after i.last) all) is ≡ false
     → (c : ℕ) × IsCharacter c × (is_member c all ≡ false)
 gap all [] r h = cc
-gap all (i ∷ is) r h = gap_at all i is r (i.last == 0x10_FFFF) (is_member (code_after i.last) all) refl refl h (gap all is (and_both (is_range i) (list_all is_range is) r).1)
+gap all (i ∷ is) r h = gap_at all i is r (i.last == 0x10_FFFF) (is_member (code_after i.last) all) refl refl h (gap all is (and_parts (is_range i) (list_all is_range is) r).1)
 
 outside_at : (is : List Interval) (b : Bool) → is_member 0 is ≡ b → is_everything is ≡ false
     → (list_all (λ i. i.last == 0x10_FFFF || is_member (code_after i.last) is) is ≡ false → (c : ℕ) × IsCharacter c × (is_member c is ≡ false)) → (c : ℕ) × IsCharacter c × (is_member c is ≡ false)
@@ -62,16 +54,16 @@ pub has_member : (negated : Bool) (is : List Interval) → list_all is_range is 
 has_member true is r h = let g = some_outside is r h in (g.0, g.1, not_false (is_member g.0 is) g.2)
 has_member false [] r h = cc
 has_member false (i ∷ is) r h =
-    let e = and_both (is_range i) (list_all is_range is) r in
-    let f = and_both (is_scalar i.first) (is_scalar i.last && nat_le i.first i.last) e.0 in
-    (i.first, scalar_character i.first f.0, rw (reflexive i.first, (and_both (is_scalar i.last) (nat_le i.first i.last) f.1).1) refl)
+    let e = and_parts (is_range i) (list_all is_range is) r in
+    let f = and_parts (is_scalar i.first) (is_scalar i.last && nat_le i.first i.last) e.0 in
+    (i.first, scalar_character i.first f.0, rw (reflexive i.first, (and_parts (is_scalar i.last) (nat_le i.first i.last) f.1).1) refl)
 
 pub ranges : (is : List Interval) → list_all is_range is ≡ true → AllByRecursion (λ i. i.first ≤ i.last) is
 ranges [] h = tt
 ranges (i ∷ is) h =
-    let e = and_both (is_range i) (list_all is_range is) h in
-    let f = and_both (is_scalar i.first) (is_scalar i.last && nat_le i.first i.last) e.0 in
-    (le_tested i.first i.last (and_both (is_scalar i.last) (nat_le i.first i.last) f.1).1, ranges is e.1)
+    let e = and_parts (is_range i) (list_all is_range is) h in
+    let f = and_parts (is_scalar i.first) (is_scalar i.last && nat_le i.first i.last) e.0 in
+    (le_tested i.first i.last (and_parts (is_scalar i.last) (nat_le i.first i.last) f.1).1, ranges is e.1)
 
 pub filled : {A : Type 0} (xs : List A) → not (is_empty xs) ≡ true → xs ≢ []
 filled [] h p = cc
@@ -81,10 +73,10 @@ filled (x ∷ xs) h p = cc
 pub well_made : (e : Expression) → is_sound e ≡ true → IsWellMade e
 well_made (Literal v) h = filled v.items h
 well_made (Class negated v) h =
-    let e = and_both (list_all is_range v.items) (not (is_nothing negated v.items)) h in
-    (ranges v.items e.0, has_member negated v.items e.0 (not_true (is_nothing negated v.items) e.1))
-well_made (Sequence' p a q b) h = let e = and_both (is_sound a) (is_sound b) h in (well_made a e.0, well_made b e.1)
-well_made (Choice' p a q b) h = let e = and_both (is_sound a) (is_sound b) h in (well_made a e.0, well_made b e.1)
+    let e = and_parts (list_all is_range v.items) (not (is_nothing negated v.items)) h in
+    (ranges v.items e.0, has_member negated v.items e.0 (not-true (is_nothing negated v.items) e.1))
+well_made (Sequence' p a q b) h = let e = and_parts (is_sound a) (is_sound b) h in (well_made a e.0, well_made b e.1)
+well_made (Choice' p a q b) h = let e = and_parts (is_sound a) (is_sound b) h in (well_made a e.0, well_made b e.1)
 well_made (Star' p a) h = well_made a h
 well_made (Plus' p a) h = well_made a h
 well_made (Optional' p a) h = well_made a h
@@ -104,7 +96,7 @@ nonempty u e = cc
 pub empty_matched : (e : Expression) → matches_empty e ≡ true → Matches e []
 empty_matched (Literal v) h = none_in v.items h
 empty_matched (Class negated v) h = cc
-empty_matched (Sequence' p a q b) h = let e = and_both (matches_empty a) (matches_empty b) h in ([], [], refl, empty_matched a e.0, empty_matched b e.1)
+empty_matched (Sequence' p a q b) h = let e = and_parts (matches_empty a) (matches_empty b) h in ([], [], refl, empty_matched a e.0, empty_matched b e.1)
 empty_matched (Choice' p a q b) h = or_case (matches_empty a) (matches_empty b) h (λ g. inl (empty_matched a g)) (λ g. inr (empty_matched b g))
 empty_matched (Star' p a) h = ([], tt, refl)
 empty_matched (Plus' p a) h = ([] ∷ [], nonempty [], (empty_matched a h, tt), refl)
@@ -113,13 +105,6 @@ empty_matched (Optional' p a) h = inl refl
 no_prefix : (u v : List ℕ) → [] ≡ u ++ v → (u ≡ []) × (v ≡ [])
 no_prefix [] v e = (refl, sym e)
 no_prefix (x ∷ u) v e = cc
-
-pub or_left : (a b : Bool) → a ≡ true → (a || b) ≡ true
-or_left a b h = rw h refl
-
-pub or_right : (a b : Bool) → b ≡ true → (a || b) ≡ true
-or_right true b h = refl
-or_right false b h = h
 
 first_of_join : (L : List ℕ → Type 0) (parts : List (List ℕ)) → parts ≢ [] → AllByRecursion L parts → [] ≡ concat parts → L []
 first_of_join L [] ne all e = absurd (ne refl)

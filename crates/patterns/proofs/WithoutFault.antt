@@ -1,9 +1,9 @@
 -- A text without a fault spells a well made expression: what has been read is parts of one, and each further character goes on with them.
 use denote.RawPtr.{null_ptr}
 use Rattle.std.proofs.Common.{◌≡◌, ◌≢◌, inl, inr, ℕ, zero, suc, ◌+◌, ◌-◌, ◌*◌, ◌^◌, ◌<◌, ◌≤◌, ◌==◌, ◌&&◌, ◌||◌, nat_lt, nat_le, Bool, true, false, not, List, [], ◌∷◌, ◌++◌, length, None, Ok, Err, Vec, refl, sym, ◌∙◌, ap, subst, append_assoc, append-nil, length-append, add-one, le_refl, arith, if◌then◌else◌}
-use Rattle.patterns.proofs.Common.{AllByRecursion, recursion_from_All, list_all, nat_tests, digit_value, Global, Interval, Expression, Literal, Class, Sequence', Choice', Star', Plus', Optional', Address, IsCharacter, IsText, is_scalar, is_mark, Written, Plain, Escaped, BadEscape, written, escape, braced, digits, Before, Nothing, AnAtom, ARepetition, is_something, is_atom, InItem, Opened, Items, First, Dash, State, Outside, InLiteral, InClass, Next, step, closed, close, dash, caret, char_in_class, is_nothing, fault_from, fault_at_end, or_later, first_fault, Level, Alt, Seq, Rep, Atom, SpellsAt, Spells, choice, sequence, star, plus, optional, literal, class, group, one_seq, one_rep, one_atom, blank_before, blank_after, IsSign, IsBlank, IsLiteralChar, IsLiteralRest, IsLiteral, IsItem, IsClassChar, IsClassRest, IsClass, IsWellMade, is_empty, is_range}
+use Rattle.patterns.proofs.Common.{AllByRecursion, recursion_from_All, list_all, nat_tests, digit_value, Global, Interval, Expression, Literal, Class, Sequence', Choice', Star', Plus', Optional', Address, IsCharacter, IsText, is_scalar, is_mark, Written, Plain, Escaped, BadEscape, written, escape, braced, digits, Before, Nothing, AnAtom, ARepetition, is_something, is_atom, InItem, Opened, Items, First, Dash, State, Outside, InLiteral, InClass, Next, step, closed, close, dash, caret, char_in_class, is_nothing, fault_from, fault_at_end, or_later, first_fault, Level, Alt, Seq, Rep, Atom, SpellsAt, Spells, choice, sequence, star, plus, optional, literal, class, group, one_seq, one_rep, one_atom, blank_before, blank_after, IsSign, IsBlank, IsLiteralChar, IsLiteralRest, IsLiteral, IsItem, IsClassChar, IsClassRest, IsClass, IsWellMade, is_empty, is_range, and_parts}
 use Rattle.patterns.proofs.Literals.{GoesOn, one_more, all_and_one, not_empty_after}
-use Rattle.patterns.proofs.WellMade.{and_both, or_case, ranges, has_member, filled}
+use Rattle.patterns.proofs.WellMade.{or_case, ranges, has_member, filled}
 
 -- `ws` spells a well made expression as a part of this level, inside `d` parentheses
 abbrev Makes : Level → ℕ → List Written → Type 0
@@ -194,13 +194,13 @@ outside_goes d b o c ws r =
     (λ _. by_test P (c == 34) (λ h. literal_begins d o c b ws h r)
     (λ _. by_test P (c == 91) (λ h. class_begins d o c b ws h r)
     (λ _. by_test P (c == 40 && nat_lt d 64)
-    (λ h. let g = and_both (c == 40) (nat_lt d 64) h in group_opens d b ws w (sign_of c 40 g.0) (below d 64 g.1) r)
+    (λ h. let g = and_parts (c == 40) (nat_lt d 64) h in group_opens d b ws w (sign_of c 40 g.0) (below d 64 g.1) r)
     (λ _. by_test P (c == 41 && (is_something b && nat_lt 0 d))
-    (λ h. let g = and_both (c == 41) (is_something b && nat_lt 0 d) h in let k = and_both (is_something b) (nat_lt 0 d) g.1 in group_closes d b ws w (sign_of c 41 g.0) k.0 k.1 r)
+    (λ h. let g = and_parts (c == 41) (is_something b && nat_lt 0 d) h in let k = and_parts (is_something b) (nat_lt 0 d) g.1 in group_closes d b ws w (sign_of c 41 g.0) k.0 k.1 r)
     (λ _. by_test P (c == 124 && is_something b)
-    (λ h. let g = and_both (c == 124) (is_something b) h in goes_outside d b Nothing ws w (λ vs. bar_stands d b vs w g.1 (sign_of c 124 g.0)) r)
+    (λ h. let g = and_parts (c == 124) (is_something b) h in goes_outside d b Nothing ws w (λ vs. bar_stands d b vs w g.1 (sign_of c 124 g.0)) r)
     (λ _. by_test P ((c == 42 || (c == 43 || c == 63)) && is_atom b)
-    (λ h. let g = and_both (c == 42 || (c == 43 || c == 63)) (is_atom b) h in goes_outside d b ARepetition ws w (λ vs. sign_stands d b vs w (repeats d o c g.0) g.1) r)
+    (λ h. let g = and_parts (c == 42 || (c == 43 || c == 63)) (is_atom b) h in goes_outside d b ARepetition ws w (λ vs. sign_stands d b vs w (repeats d o c g.0) g.1) r)
     (λ _. tt)))))))
 
 longer_literal : (v : List ℕ) (ws : List Written) → IsLiteralRest v ws → length v < length ws
@@ -385,7 +385,7 @@ mutual
       let P : List Written → Type 0 = AreGood (suc (suc (length t))) in
       by_test P (c == 125 && (nat_lt 0 n && is_scalar value))
       (λ g.
-      let named = (and_both (nat_lt 0 n) (is_scalar value) (and_both (c == 125) (nat_lt 0 n && is_scalar value) g).1).1 in
+      let named = (and_parts (nat_lt 0 n) (is_scalar value) (and_parts (c == 125) (nat_lt 0 n && is_scalar value) g).1).1 in
       one_good (Escaped o value) (written (o + n + 4) t) named (omega arith) (written_good (o + n + 4) t h.1))
       (λ _. by_test P (nat_lt (digit_value c) 16 && nat_lt n 6) (λ _. let g = digits_good o (n + 1) (16 * value + digit_value c) t h.1 in (g.0, omega (arith, g.1))) (λ _. ((tt, tt), omega arith)))
 

@@ -1,27 +1,7 @@
 -- Marks that a fixpoint gives are FIRST by the rules.
-use Rattle.std.proofs.Common.{◌≡◌, ◌+◌, ◌<◌, ◌≤◌, ◌⊎◌, ℕ, Bool, true, false, ◌&&◌, ◌||◌, List, [], ◌∷◌, Option, Some, None, length, slice_index_or, slice_set, refl, sym, subst, inl, inr, ⊎_elim, arith, ap, ◌∙◌, get_or-set_other}
-use Rattle.productions.proofs.Common.{cases_eq, eq-eqb, eqb-true, sum_by-set, Symbol, Terminal, Nonterminal, Grammar, HasProduction, production_of, left_of, right_of, IsNullable, None_left, Drop, InFirst, At_once, Within, After, nullable_by, begin_by, holds_by, Means, AreTrue, AreClosed, AreExact, off, on, unmarked}
+use Rattle.std.proofs.Common.{◌≡◌, ◌+◌, ◌<◌, ◌≤◌, ◌⊎◌, ℕ, Bool, true, false, ◌&&◌, ◌||◌, List, [], ◌∷◌, Option, Some, None, length, slice_index_or, slice_set, refl, sym, subst, ⊎_elim, arith, ap, ◌∙◌, get_or-set_other}
+use Rattle.productions.proofs.Common.{cases_eq, eq-eqb, eqb-true, sum_by-set, Symbol, Terminal, Nonterminal, Grammar, HasProduction, production_of, left_of, right_of, IsNullable, None_left, Drop, InFirst, At_once, Within, After, nullable_by, begin_by, holds_by, Means, AreTrue, AreClosed, AreExact, off, on, unmarked, and_from, and_parts, or_cases, or_left, or_right}
 use Rattle.productions.proofs.Numbers.{production_is}
-
-and_parts : (a b : Bool) → (a && b) ≡ true → (a ≡ true) × (b ≡ true)
-and_parts true b e = (refl, e)
-and_parts false b e = absurd (cc e)
-
-and_both : (a b : Bool) → a ≡ true → b ≡ true → (a && b) ≡ true
-and_both true b e f = f
-and_both false b e f = absurd (cc e)
-
-or_parts : (a b : Bool) → (a || b) ≡ true → (a ≡ true) ⊎ (b ≡ true)
-or_parts true b e = inl refl
-or_parts false b e = inr e
-
-or_left : (a b : Bool) → a ≡ true → (a || b) ≡ true
-or_left true b e = refl
-or_left false b e = absurd (cc e)
-
-or_right : (a b : Bool) → b ≡ true → (a || b) ≡ true
-or_right true b e = refl
-or_right false b e = e
 
 module _ (g : Grammar) where
   nullable_join : (n : ℕ) (rest : List Symbol) → IsNullable g (Nonterminal n ∷ []) → IsNullable g rest → IsNullable g (Nonterminal n ∷ rest)
@@ -49,7 +29,7 @@ module _ (g : Grammar) where
   begin_sound a nullable marks v t [] e = absurd (cc e)
   begin_sound a nullable marks v t (Terminal b ∷ ss) e = subst (λ c. InFirst g a (Terminal c ∷ ss)) (eqb-true a b e) At_once
   begin_sound a nullable marks v t (Nonterminal n ∷ ss) e = ⊎_elim (λ x. begins_join a n ss (t n x)) (λ f. after_dot n a nullable marks v ss (begin_sound a nullable marks v t ss) f)
-      (or_parts (slice_index_or marks n false) (slice_index_or nullable n false && begin_by a nullable marks ss) e)
+      (or_cases (slice_index_or marks n false) (slice_index_or nullable n false && begin_by a nullable marks ss) e)
 
   pub holds_sound : (look : Option ℕ) (nullable marks : List Bool) → AreTrue g None nullable → AreTrue g look marks → (ss : List Symbol) → holds_by look nullable marks ss ≡ true → Means g look ss
   holds_sound None nullable marks v t ss e = nullable_sound marks t ss e
@@ -57,7 +37,7 @@ module _ (g : Grammar) where
 
   pub nullable_complete : (nullable marks : List Bool) → AreClosed g None nullable marks → {ss : List Symbol} → IsNullable g ss → nullable_by marks ss ≡ true
   nullable_complete nullable marks c None_left = refl
-  nullable_complete nullable marks c (Drop p {n = n} {right = right} {rest = rest} h v w) = and_both (slice_index_or marks n false) (nullable_by marks rest)
+  nullable_complete nullable marks c (Drop p {n = n} {right = right} {rest = rest} h v w) = and_from (slice_index_or marks n false) (nullable_by marks rest)
       (c p n right h (nullable_complete nullable marks c v)) (nullable_complete nullable marks c w)
 
   pub begin_complete : (a : ℕ) (nullable marks : List Bool) → ((n : ℕ) → IsNullable g (Nonterminal n ∷ []) → slice_index_or nullable n false ≡ true)
@@ -66,7 +46,7 @@ module _ (g : Grammar) where
   begin_complete a nullable marks v c (Within p {n = n} {right = right} {rest = rest} h b) = or_left (slice_index_or marks n false)
       (slice_index_or nullable n false && begin_by a nullable marks rest) (c p n right h (begin_complete a nullable marks v c b))
   begin_complete a nullable marks v c (After {n = n} {rest = rest} w b) = or_right (slice_index_or marks n false) (slice_index_or nullable n false && begin_by a nullable marks rest)
-      (and_both (slice_index_or nullable n false) (begin_by a nullable marks rest) (v n w) (begin_complete a nullable marks v c b))
+      (and_from (slice_index_or nullable n false) (begin_by a nullable marks rest) (v n w) (begin_complete a nullable marks v c b))
 
   first_part : (b : Bool) → (b && true) ≡ true → b ≡ true
   first_part true e = refl

@@ -43,6 +43,3 @@ module _ (left : ℕ → ℕ) (rows : List (List ℕ)) (at : ℕ) (within : left
       (λ s. subst (AllPairs (λ p q. p < q)) (sym (ap (λ m. slice_index_or after m []) s ∙ same_row)) (all_pairs_push (λ p q. p < q) row at (h (left at)) (λ k d l. (theirs (left at) k d l).0)))
       (λ o. subst (AllPairs (λ p q. p < q)) (sym (other_row n o)) (h n))
       (cases_eq n (left at))
-
-pub rising_none : (xs : List ℕ) → xs ≡ [] → AllPairs (λ p q. p < q) xs
-rising_none xs none = λ i j d b c. absurd (omega (arith, c, ap length none))

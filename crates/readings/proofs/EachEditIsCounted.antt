@@ -1,73 +1,36 @@
 -- Of each edit an answer is given: whether a node is kept can be decided, so that those that lie in no kept one can be counted.
 use Rattle.std.proofs.Common.{◌≡◌, ◌<◌, ◌≤◌, ℕ, ◌+◌, List, [], ◌∷◌, length, refl, sym, ap, subst, ◌∙◌, ◌⊎◌, inl, inr, ⊎_elim, arith, Option}
-use Rattle.readings.proofs.Common.{cases_lt, cases_eq, head-eq_of_cons-eq, tail-eq_of_cons-eq, Edit, Kind, Invalid, StandsIn, Top, Below, Past, place_of, all_branches, changed, Splice, made, splice, IsTouched, IsMoved, IsKept, Built, Nothing, Kept, New, Tree, Forest, Leaf, Branch, Nil, Cons, trees, yield, yields, FileGrammar, stands_split, not_in_leaf, nowhere, stands_in_prefix, Reading, AlwaysAnswers, Makes, AlwaysCounts, IsAbove, number_after, edit_of, LastEdit}
+use Rattle.readings.proofs.Common.{cases_eq, head-eq_of_cons-eq, tail-eq_of_cons-eq, Edit, Kind, Invalid, StandsIn, Top, Below, Past, place_of, all_branches, changed, Splice, made, splice, IsTouched, IsMoved, IsKept, Built, Nothing, Kept, New, Tree, Forest, Leaf, Branch, Nil, Cons, trees, yield, yields, FileGrammar, stands_split, not_in_leaf, nowhere, stands_in_prefix, Reading, AlwaysAnswers, Makes, AlwaysCounts, IsAbove, number_after, edit_of, LastEdit}
 use Rattle.definitions.specs.declared.Kind.TheVariants.{Rule as Terminal}
 use Rattle.definitions.specs.TreeEdits.{Token}
+use Rattle.readings.proofs.Decided.{Decided, both_decided, all_decided, either_decided, not_decided, less_decided, most_decided, same_decided}
 use Rattle.readings.proofs.EachEditIsCountedOnce.{above_or_not}
-
--- ---- what can be decided
-
-abbrev Decided : Type 0 → Type 0
-Decided A = A ⊎ ¬ A
-
-both_decided : {A B : Type 0} → Decided A → Decided B → Decided (A × B)
-both_decided (inl a) (inl b) = inl (a, b)
-both_decided (inl a) (inr isnt) = inr (λ both. isnt both.1)
-both_decided (inr isnt) b = inr (λ both. isnt both.0)
-
-all_decided : {A B C D : Type 0} → Decided A → Decided B → Decided C → Decided D → Decided (A × B × C × D)
-all_decided (inl a) (inl b) (inl c) (inl d) = inl (a, b, c, d)
-all_decided (inl a) (inl b) (inl c) (inr isnt) = inr (λ all. isnt all.3)
-all_decided (inl a) (inl b) (inr isnt) d = inr (λ all. isnt all.2)
-all_decided (inl a) (inr isnt) c d = inr (λ all. isnt all.1)
-all_decided (inr isnt) b c d = inr (λ all. isnt all.0)
-
-either_decided : {A B : Type 0} → Decided A → Decided B → Decided (A ⊎ B)
-either_decided (inl a) b = inl (inl a)
-either_decided (inr isnt) (inl b) = inl (inr b)
-either_decided (inr isnt) (inr never) = inr (λ either. ⊎_elim isnt never either)
-
-not_decided : {A : Type 0} → Decided A → Decided (¬ A)
-not_decided (inl a) = inr (λ isnt. isnt a)
-not_decided (inr isnt) = inl isnt
-
-less_decided : (a b : ℕ) → Decided (a < b)
-less_decided a b = ⊎_elim (λ less. inl less) (λ more. inr (λ less. omega (arith, less, more))) (cases_lt a b)
-
-most_decided : (a b : ℕ) → Decided (a ≤ b)
-most_decided a b = ⊎_elim (λ less. inr (λ most. omega (arith, less, most))) (λ most. inl most) (cases_lt b a)
-
-same_decided : (a b : ℕ) → Decided (a ≡ b)
-same_decided a b = ⊎_elim (λ same. inl same) (λ apart. inr apart) (cases_eq a b)
 
 -- ---- whether two trees are the same
 
 kind_decided : (j k : Kind) → Decided (j ≡ k)
 kind_decided (Terminal m) (Terminal n) = ⊎_elim (λ e. inl (ap (λ a. Terminal a) e)) (λ apart. inr (λ e. apart (let same : m ≡ n = cc in same))) (cases_eq m n)
-kind_decided (Terminal m) Invalid = inr (λ e. let f : ⊥ = cc in f)
-kind_decided Invalid (Terminal n) = inr (λ e. let f : ⊥ = cc in f)
 kind_decided Invalid Invalid = inl refl
+kind_decided j k = inr (λ e. let f : ⊥ = cc in f)
 
 mutual
   tree_decided : (t u : Tree) → Decided (t ≡ u)
   tree_decided (Leaf j) (Leaf k) = ⊎_elim (λ e. inl (ap (λ a. Leaf a) e)) (λ apart. inr (λ e. apart (let same : j ≡ k = cc in same))) (kind_decided j k)
-  tree_decided (Leaf j) (Branch q us) = inr (λ e. let f : ⊥ = cc in f)
-  tree_decided (Branch p ts) (Leaf k) = inr (λ e. let f : ⊥ = cc in f)
   tree_decided (Branch p ts) (Branch q us) =
       ⊎_elim
       (λ e. ⊎_elim (λ es. inl (ap (λ a. Branch a ts) e ∙ ap (λ b. Branch q b) es)) (λ apart. inr (λ all. apart (let same : ts ≡ us = cc in same))) (forest_decided ts us))
       (λ apart. inr (λ all. apart (let same : p ≡ q = cc in same)))
       (cases_eq p q)
+  tree_decided t u = inr (λ e. let f : ⊥ = cc in f)
 
   forest_decided : (ts us : Forest) → Decided (ts ≡ us)
   forest_decided Nil Nil = inl refl
-  forest_decided Nil (Cons u us) = inr (λ e. let f : ⊥ = cc in f)
-  forest_decided (Cons t ts) Nil = inr (λ e. let f : ⊥ = cc in f)
   forest_decided (Cons t ts) (Cons u us) =
       ⊎_elim
       (λ e. ⊎_elim (λ es. inl (ap (λ a. Cons a ts) e ∙ ap (λ b. Cons u b) es)) (λ apart. inr (λ all. apart (let same : ts ≡ us = cc in same))) (forest_decided ts us))
       (λ apart. inr (λ all. apart (let same : t ≡ u = cc in same)))
       (tree_decided t u)
+  forest_decided ts us = inr (λ e. let f : ⊥ = cc in f)
 
 -- ---- whether a branch stands in some trees, after left siblings of which something holds
 

@@ -1,20 +1,11 @@
 -- Of each edit at most one answer is given, and of each document at most one list of counts.
-use Rattle.std.proofs.Common.{◌≡◌, ℕ, List, length, sym, ap, subst, ◌∙◌, ◌⊎◌, inl, inr, ⊎_elim, arith, Option, Some, None}
-use Rattle.readings.proofs.Common.{cases_lt, Range, Stats, Encoding, all_branches, FileGrammar, one_built, Reading, AnswersOnce, IsNext, Makes, AreStats, ReportsLast, CountsOnce, IsAbove, number_after, edit_of, without_nodes, LastEdit, OpenDocument}
+use Rattle.std.proofs.Common.{◌≡◌, ℕ, List, length, sym, ap, subst, ◌∙◌, ◌⊎◌, inl, inr, Option, Some, None}
+use Rattle.readings.proofs.Common.{Range, Stats, Encoding, all_branches, FileGrammar, one_built, Reading, AnswersOnce, IsNext, Makes, AreStats, ReportsLast, CountsOnce, IsAbove, number_after, edit_of, without_nodes, LastEdit, OpenDocument}
+use Rattle.readings.proofs.Decided.{Decided, both_decided, either_decided, less_decided, same_decided}
 
-pub above_or_not : (last : Option LastEdit) (number : ℕ) → IsAbove last number ⊎ (¬ IsAbove last number)
-above_or_not None number = ⊎_elim (λ some. inl some) (λ none. inr (λ some. omega (arith, none, some))) (cases_lt 0 number)
-above_or_not (Some last) number =
-    ⊎_elim
-    (λ less. inl (inl less))
-    (λ more. ⊎_elim
-    (λ apart. inr (λ above. ⊎_elim (λ less. omega (arith, less, more)) (λ same. omega (arith, same.0, apart)) above))
-    (λ most. ⊎_elim
-    (λ some. inr (λ above. ⊎_elim (λ less. omega (arith, less, more)) (λ same. omega (arith, same.1, some)) above))
-    (λ none. inl (inr (omega (arith, more, most), omega (arith, none))))
-    (cases_lt 0 last.built))
-    (cases_lt number last.number))
-    (cases_lt last.number number)
+pub above_or_not : (last : Option LastEdit) (number : ℕ) → Decided (IsAbove last number)
+above_or_not None number = less_decided 0 number
+above_or_not (Some last) number = either_decided (less_decided last.number number) (both_decided (same_decided last.number number) (same_decided last.built 0))
 
 made_once : (encoding : Encoding) (file : FileGrammar) (t : List ℕ) (range : Option Range) (s : List ℕ) (last : Option LastEdit) (r q : Reading) (one other : LastEdit)
     → Makes file (edit_of encoding t range s (number_after last)) last r q one → Makes file (edit_of encoding t range s (number_after last)) last r q other → other ≡ one
@@ -22,10 +13,7 @@ made_once encoding file t range s last r q one other a b =
     same (b.number ∙ sym a.number) (b.scanned ∙ sym a.scanned) (built (above_or_not last (number_after last)))
   where
     same : other.number ≡ one.number → other.scanned ≡ one.scanned → other.built ≡ one.built → other ≡ one
-    same number scanned built =
-        ap (λ n. record { number = n; scanned = other.scanned; built = other.built }) number
-        ∙ (ap (λ n. record { number = one.number; scanned = n; built = other.built }) scanned
-        ∙ ap (λ n. record { number = one.number; scanned = one.scanned; built = n }) built)
+    same number scanned built = λ i. record { number = number i; scanned = scanned i; built = built i }
 
     built : IsAbove last (number_after last) ⊎ (¬ IsAbove last (number_after last)) → other.built ≡ one.built
     built (inl above) = one_built (b.built above) (a.built above)
@@ -42,12 +30,7 @@ edits_once file once encoding t range s last one other a b =
 
 same_stats : (one other : Stats) → other.edit ≡ one.edit → other.scanned ≡ one.scanned → other.tokens ≡ one.tokens
     → other.branches ≡ one.branches → other.built ≡ one.built → without_nodes other ≡ without_nodes one
-same_stats one other edit scanned tokens branches built =
-    ap (λ n. record { edit = n; scanned = other.scanned; tokens = other.tokens; branches = other.branches; built = other.built; nodes = 0 }) edit
-    ∙ (ap (λ n. record { edit = one.edit; scanned = n; tokens = other.tokens; branches = other.branches; built = other.built; nodes = 0 }) scanned
-    ∙ (ap (λ n. record { edit = one.edit; scanned = one.scanned; tokens = n; branches = other.branches; built = other.built; nodes = 0 }) tokens
-    ∙ (ap (λ n. record { edit = one.edit; scanned = one.scanned; tokens = one.tokens; branches = n; built = other.built; nodes = 0 }) branches
-    ∙ ap (λ n. record { edit = one.edit; scanned = one.scanned; tokens = one.tokens; branches = one.branches; built = n; nodes = 0 }) built)))
+same_stats one other edit scanned tokens branches built = λ i. record { edit = edit i; scanned = scanned i; tokens = tokens i; branches = branches i; built = built i; nodes = 0 }
 
 stats_alike : (file : FileGrammar) → AnswersOnce file → (d : OpenDocument) (one other : Stats) → AreStats file d one → AreStats file d other → without_nodes other ≡ without_nodes one
 stats_alike file once d one other a b = by d.last a.last b.last

@@ -1,6 +1,6 @@
 -- A text has one reading by a grammar file, and a reading has one answer to each question.
 use Rattle.std.proofs.Common.{◌≡◌, ℕ, Bool, List, [], ◌∷◌, sym, ap, subst, ◌∙◌, reverse, map, length, Option, Some}
-use Rattle.readings.proofs.Common.{Kind, Position, Range, Encoding, Expression, AreFolds, Diagnostic, IsSelection, diagnostic, range_of, AreDocumentTrees, IsNodeOf, HasNoConflict, IsExpected, IsVerdict, Verdict, HasTree, FaultAt, FaultAtEnd, offset, AreTokens, Placed, Token, kinds, Grammar, Tree, FileGrammar, AreFoldsOf, IsSelectionOf, placed_parts, IsDiagnosis, IsFaultAfter, looks, Reading, IsReading, AreSelections, AnswersOnce}
+use Rattle.readings.proofs.Common.{Kind, Position, Range, Encoding, Expression, AreFolds, Diagnostic, IsSelection, diagnostic, range_of, AreDocumentTrees, IsNodeOf, HasNoConflict, IsExpected, IsVerdict, Verdict, HasTree, offset, AreTokens, Placed, Token, kinds, Grammar, Tree, FileGrammar, AreFoldsOf, IsSelectionOf, placed_parts, IsDiagnosis, IsFaultAfter, looks, Reading, IsReading, AreSelections, AnswersOnce}
 
 -- of each thing that an answer is made of there is one
 pub record Unique : Type 0 where
@@ -24,10 +24,7 @@ module _ (unique : Unique) (file : FileGrammar) (free : HasNoConflict file.gramm
       let tb : AreDocumentTrees file.grammar (kinds file.skips a.tokens) b.verdict b.trees = subst (λ xs. AreDocumentTrees file.grammar (kinds file.skips xs) b.verdict b.trees) tokens ib.trees in
       let verdict : b.verdict ≡ a.verdict = unique.verdicts file.grammar free (kinds file.skips a.tokens) b.verdict a.verdict vb ia.verdict in
       let trees : b.trees ≡ a.trees = unique.trees file.grammar free (kinds file.skips a.tokens) b.verdict a.verdict b.trees a.trees vb ia.verdict tb ia.trees in
-      let first : b ≡ record { tokens = a.tokens; verdict = b.verdict; trees = b.trees } = ap (λ xs. record { tokens = xs; verdict = b.verdict; trees = b.trees }) tokens in
-      let second : record { tokens = a.tokens; verdict = b.verdict; trees = b.trees } ≡ record { tokens = a.tokens; verdict = a.verdict; trees = b.trees } =
-      ap (λ v. record { tokens = a.tokens; verdict = v; trees = b.trees }) verdict in
-      first ∙ (second ∙ ap (λ ts. record { tokens = a.tokens; verdict = a.verdict; trees = ts }) trees)
+      λ i. record { tokens = tokens i; verdict = verdict i; trees = trees i }
 
   one_selection : (encoding : Encoding) (t : List ℕ) (r : Reading) (o : ℕ) (one other : List Range) → IsSelectionOf encoding file t r.tokens r.trees o one
       → IsSelectionOf encoding file t r.tokens r.trees o other → other ≡ one

@@ -4,5 +4,6 @@ pub mod Results
 mod Trees
 mod EachReadingExists
 mod EachReadingIsUnique
+mod Decided
 mod EachEditIsCountedOnce
 mod EachEditIsCounted

@@ -1,5 +1,5 @@
 -- The trees of a document: they are trees of the grammar, and cover no more kinds than there are.
-use Rattle.std.proofs.Common.{◌≡◌, ◌≤◌, ◌+◌, ℕ, zero, suc, List, [], ◌∷◌, length, take, sym, ap, subst, ◌∙◌, arith}
+use Rattle.std.proofs.Common.{length-take, ◌≡◌, ◌≤◌, ◌+◌, ℕ, List, [], ◌∷◌, length, take, sym, ap, subst, ◌∙◌, arith}
 use Rattle.readings.proofs.Common.{append-nil, length-append, Kind, Symbol, Terminal, Nonterminal, AreDocumentTrees, Verdict, HasTree, FaultAt, FaultAtEnd, IsVerdict, Way, WayAmong, At, Down, This, Next, IsSettled, Grammar, Tree, Forest, IsTree, AreTrees, HaveRoots, all_kinds}
 
 module _ (g : Grammar) where
@@ -12,10 +12,9 @@ module _ (g : Grammar) where
 
     among_are_trees : {ts : Forest} {lefts : List Tree} {k : Kind} {after : List Kind} → WayAmong ts lefts k after → (symbols : List Symbol)
         → AreTrees g ts symbols → (roots : List Symbol) × HaveRoots g lefts roots
-    among_are_trees (This way) [] are = absurd are
     among_are_trees (This way) (s ∷ symbols) are = lefts_are_trees way s are.0
-    among_are_trees (Next way) [] are = absurd are
     among_are_trees (Next way) (s ∷ symbols) are = let more = among_are_trees way symbols are.1 in (s ∷ more.0, (are.0, more.1))
+    among_are_trees way symbols are = absurd are
 
   -- the trees' roots, and that they have at most n kinds
   abbrev pub AreRooted : List Tree → ℕ → Type 0
@@ -28,11 +27,6 @@ module _ (g : Grammar) where
       let long : length (k ∷ x) ≡ length (all_kinds trees) + 1 = ap length h.kinds ∙ length-append (all_kinds trees) (h.last ∷ []) in
       (roots.0, roots.1, omega (arith, long))
 
-  length_prefix : (n : ℕ) (x : List Kind) → length (take n x) ≤ length x
-  length_prefix zero x = omega arith
-  length_prefix (suc n) [] = omega arith
-  length_prefix (suc n) (k ∷ x) = let more = length_prefix n x in omega (arith, more)
-
   pub document_rooted : (x : List Kind) (v : Verdict) (trees : List Tree) → IsVerdict g x v → AreDocumentTrees g x v trees → AreRooted trees (length x)
   document_rooted x (HasTree t) trees is are =
       let kinds : length (all_kinds (t ∷ [])) ≡ length x = ap length (append-nil _ ∙ is.kinds) in
@@ -40,6 +34,6 @@ module _ (g : Grammar) where
   document_rooted x (FaultAt k) trees is are =
       let r = settled_rooted (take k x) trees are in
       let few = r.2 in
-      let kept_before = length_prefix k x in
+      let kept_before = length-take k x in
       (r.0, r.1, omega (arith, few, kept_before))
   document_rooted x FaultAtEnd trees is are = settled_rooted x trees are

@@ -5,8 +5,6 @@ pub use Rattle.std.proofs.lemmas.Result.{on_ok_weaker}
 pub use Rattle.definitions.specs.declared.Range.{Range}
 pub use Rattle.replies.specs.Ids.{Ident, id_view, named, numbered}
 pub use Rattle.replies.specs.Replies.{Answer, capabilities, capabilities_reply, code_of, diagnostic_list, document_data, error_reply, fold_data, folds_data, folds_reply, id_data, log_message, maybe_id_data, nested, null_reply, published, published_diagnostics, range_data, reply_data, reply_view, result_data, row_data, row_view, rows_data, selection_data, selections_data, selections_reply, stats_data, stats_reply, text_reply, tokens_reply, tree_reply, with_parent}
-pub use Rattle.replies.specs.declared.reply.Refusal.{Refusal}
-pub use Rattle.replies.specs.declared.reply.Refusal.TheVariants.{DocumentLost, DocumentNotOpen, InvalidParams, InvalidRequest, MethodNotFound, NotInitialized, ParseError}
 pub use Rattle.replies.specs.declared.reply.Reply.{Reply}
 pub use Rattle.serde.specs.Event.{Log, Logs, seq_begins, seq_ends, text}
 pub use Rattle.serde_json.proofs.FreeTexts.{text_of_value}

@@ -1,6 +1,6 @@
 -- No reply has a number with a fraction.
 use Rattle.std.proofs.Common.{◌≡◌, ℕ, ℤ, pos, negsuc, false, List, [], ◌∷◌, map, refl, ap, ◌∙◌, ◌||◌, Option, Some, None}
-use Rattle.replies.proofs.Common.{Range, Data, null, number, string, of_integer, items_of, has_float, items_have_float, Refusal, ParseError, InvalidRequest, MethodNotFound, InvalidParams, DocumentNotOpen, DocumentLost, NotInitialized, Ident, named, numbered, Answer, capabilities_reply, null_reply, text_reply, tokens_reply, tree_reply, stats_reply, folds_reply, selections_reply, published_diagnostics, log_message, error_reply, capabilities, id_data, maybe_id_data, row_data, result_data, reply_data, document_data, rows_data, stats_data, fold_data, folds_data, selection_data, selections_data, diagnostic_list, published, code_of}
+use Rattle.replies.proofs.Common.{Range, Data, null, number, string, of_integer, items_of, has_float, items_have_float, Ident, named, numbered, Answer, capabilities_reply, null_reply, text_reply, tokens_reply, tree_reply, stats_reply, folds_reply, selections_reply, published_diagnostics, log_message, error_reply, capabilities, id_data, maybe_id_data, row_data, result_data, reply_data, document_data, rows_data, stats_data, fold_data, folds_data, selection_data, selections_data, diagnostic_list, published, code_of}
 
 integer_is_whole : (z : ℤ) → has_float (number (of_integer z)) ≡ false
 integer_is_whole (pos n) = refl
@@ -39,15 +39,6 @@ published_is_whole uri (Some version) (Some d) = ap (λ b. b || false) (integer_
 result_is_whole : (id outcome : Data) → has_float id ≡ false → has_float outcome ≡ false → has_float (result_data id outcome) ≡ false
 result_is_whole id outcome e f = ap (λ b. b || (has_float outcome || false)) e ∙ ap (λ b. b || false) f
 
-refusal_is_whole : (refusal : Refusal) → has_float (number (of_integer (code_of refusal))) ≡ false
-refusal_is_whole ParseError = refl
-refusal_is_whole InvalidRequest = refl
-refusal_is_whole MethodNotFound = refl
-refusal_is_whole InvalidParams = refl
-refusal_is_whole DocumentNotOpen = refl
-refusal_is_whole (DocumentLost loss) = refl
-refusal_is_whole NotInitialized = refl
-
 pub reply_is_whole : (a : Answer) → has_float (reply_data a) ≡ false
 reply_is_whole (capabilities_reply id unit) = result_is_whole (id_data id) (capabilities unit) (id_is_whole id) refl
 reply_is_whole (null_reply id) = result_is_whole (id_data id) null (id_is_whole id) refl
@@ -59,4 +50,4 @@ reply_is_whole (folds_reply id pairs) = result_is_whole (id_data id) (folds_data
 reply_is_whole (selections_reply id selections) = result_is_whole (id_data id) (selections_data selections) (id_is_whole id) (selections_are_whole selections)
 reply_is_whole (published_diagnostics uri version d) = ap (λ b. b || false) (published_is_whole uri version d)
 reply_is_whole (log_message log) = refl
-reply_is_whole (error_reply id refusal) = ap (λ b. (b || false) || (has_float (maybe_id_data id) || false)) (refusal_is_whole refusal) ∙ ap (λ b. b || false) (maybe_id_is_whole id)
+reply_is_whole (error_reply id refusal) = ap (λ b. (b || false) || (has_float (maybe_id_data id) || false)) (integer_is_whole (code_of refusal)) ∙ ap (λ b. b || false) (maybe_id_is_whole id)

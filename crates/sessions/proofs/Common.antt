@@ -24,7 +24,7 @@ pub use Rattle.rpc.specs.Ids.{Ident, numbered}
 pub use Rattle.rpc.specs.Log.TheVariants.{Lost}
 pub use Rattle.rpc.specs.Loss.{Loss}
 pub use Rattle.rpc.specs.Loss.TheVariants.{MalformedChange, Memory, TooLarge}
-pub use Rattle.rpc.specs.Messages.{Notification, Question, Received, Request, TextChange, Unfit, about, accepted, change_text, change_view, close, exit, ignored, initialize, initialized, invalid, its_folds, its_selections, its_text, its_tokens, its_tree, malformed, notification, open_text, params, refused, request, shutdown, stats, unfit_change, unfit_close, unfit_open, unknown, unread}
+pub use Rattle.rpc.specs.Messages.{Notification, Question, Received, Request, TextChange, Unfit, about, accepted, change_text, change_view, close, exit, ignored, initialize, initialized, invalid, its_folds, its_selections, its_text, its_tokens, its_tree, malformed, notification, open_text, refused, request, shutdown, stats, unfit_change, unfit_close, unfit_open, unread}
 pub use Rattle.rpc.specs.Range.{Range}
 pub use Rattle.rpc.specs.Reading.{received_in}
 pub use Rattle.rpc.specs.Replies.{Answer, folds_reply, log_message, published_diagnostics, selections_reply, stats_reply, tokens_reply}

@@ -1,6 +1,6 @@
 -- What a step does to the documents: nothing, or one of them stands otherwise, or is forgotten.
 use Rattle.std.proofs.Common.{◌≡◌, ℕ, ℤ, Bool, true, false, cond, List, [], ◌∷◌, refl, sym, ap, subst, ◌∙◌, Option, Some, None, All}
-use Rattle.sessions.proofs.Common.{chars, get, All-from_recursion, Encoding, OpenDocument, fits, FileGrammar, Ident, Request, initialize, shutdown, about, stats, Question, its_text, its_tokens, its_tree, its_folds, its_selections, Notification, initialized, exit, open_text, change_text, close, malformed, Unfit, unfit_open, unfit_change, unfit_close, request, notification, ignored, invalid, unknown, params, Received, unread, refused, accepted, TextChange, Answer, TooLarge, MalformedChange, Phase, New, Ready, Down, named, IsAnswer, IsCount, tree_answer, DocumentState, is_open, is_lost, Becomes, Held, has_room, Publishes, AllFit, State, OnRequest, Changes, Closes, Forgets, Holds, OnMalformed, Opens, Replies, Spoils, Step, OnNotification, new_document}
+use Rattle.sessions.proofs.Common.{chars, get, All-from_recursion, Encoding, OpenDocument, fits, FileGrammar, Ident, Request, initialize, shutdown, about, stats, Question, its_text, its_tokens, its_tree, its_folds, its_selections, Notification, initialized, open_text, change_text, close, malformed, Unfit, unfit_open, unfit_change, unfit_close, request, notification, ignored, invalid, Received, unread, refused, accepted, TextChange, Answer, TooLarge, MalformedChange, Phase, New, Ready, Down, named, IsAnswer, IsCount, tree_answer, DocumentState, is_open, is_lost, Becomes, Held, has_room, Publishes, AllFit, State, OnRequest, Changes, Closes, Forgets, Holds, OnMalformed, Opens, Replies, Spoils, Step, OnNotification, new_document}
 use Rattle.sessions.proofs.Edits.{IsFit, becomes_fit}
 
 -- no answer publishes anything of any document
@@ -138,31 +138,18 @@ module _ (name : Option (List ℕ)) (old : State) (answers : List Answer) (stop 
 
   shows_effect : (phase : Phase) → old.phase ≡ phase → (note : Notification) → name ≡ named (accepted (notification note))
       → OnNotification phase old note answers stop new → Effect name old answers stop new
-  shows_effect New at initialized is s = silent s.0 s.2
-  shows_effect New at exit is s = silent s.0 s.2
-  shows_effect New at (open_text uri version text) is s = silent s.0 s.2
-  shows_effect New at (change_text uri version changes) is s = silent s.0 s.2
-  shows_effect New at (close uri) is s = silent s.0 s.2
-  shows_effect New at (malformed unfit) is s = silent s.0 s.2
-  shows_effect (Ready unit) at initialized is s = silent s.0 s.2
-  shows_effect (Ready unit) at exit is s = silent s.0 s.2
   shows_effect (Ready unit) at (open_text uri version text) is s = opens_effect (has_room uri old.documents) uri (new_document unit version (chars text)) is
       (opened_fit unit version (chars text)) (λ all. subst (λ (p : Phase). StandsIn p (new_document unit version (chars text))) (sym at) (opened_stands unit version (chars text))) s
   shows_effect (Ready unit) at (change_text uri version changes) is s = changes_effect (get old.documents uri) uri version changes is refl s
   shows_effect (Ready unit) at (close uri) is s = closes_effect (get old.documents uri) uri is s
   shows_effect (Ready unit) at (malformed unfit) is s = misses_effect unfit is s
-  shows_effect Down at initialized is s = silent s.0 s.2
-  shows_effect Down at exit is s = silent s.0 s.2
-  shows_effect Down at (open_text uri version text) is s = silent s.0 s.2
-  shows_effect Down at (change_text uri version changes) is s = silent s.0 s.2
-  shows_effect Down at (close uri) is s = silent s.0 s.2
-  shows_effect Down at (malformed unfit) is s = silent s.0 s.2
+  shows_effect phase at initialized is s = silent s.0 s.2
+  shows_effect phase at d is s = silent s.0 s.2
 
   effect_of : (received : Received) → name ≡ named received → Step old received answers stop new → Effect name old answers stop new
   effect_of unread is s = replied _ (λ uri p. p) s
   effect_of (refused (invalid id)) is s = replied _ (λ uri p. p) s
-  effect_of (refused (unknown id)) is s = replied _ (λ uri p. p) s
-  effect_of (refused (params id first)) is s = replied _ (λ uri p. p) s
+  effect_of (refused d) is s = replied _ (λ uri p. p) s
   effect_of (accepted (request id call)) is s = asks_effect old.phase refl id call s
   effect_of (accepted (notification note)) is s = shows_effect old.phase refl note is s
   effect_of (accepted ignored) is s = silent s.0 s.2

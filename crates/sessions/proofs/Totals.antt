@@ -1,6 +1,6 @@
 -- Each message makes some step, and each list of contents some run.
 use Rattle.std.proofs.Common.{◌≡◌, ℕ, ℤ, true, false, Bool, List, [], ◌∷◌, ◌++◌, length, refl, sym, subst, arith, Option, Some, None, option_map}
-use Rattle.sessions.proofs.Common.{chars, get, Stats, all_branches, AlwaysAnswers, Reading, IsReading, AreStats, ReportsLast, LastEdit, OpenDocument, fits, FileGrammar, Ident, Request, Question, its_text, its_tokens, its_tree, its_folds, its_selections, initialize, shutdown, about, stats, Notification, initialized, exit, open_text, change_text, close, malformed, Unfit, unfit_open, unfit_change, unfit_close, request, notification, ignored, invalid, unknown, params, Received, unread, refused, accepted, TextChange, received_in, Answer, folds_reply, selections_reply, published_diagnostics, MalformedChange, IsAnswer, IsAnswerOf, IsCount, IsPublished, shown, Phase, New, Ready, Down, DocumentState, is_open, is_lost, has_room, State, OnRequest, Changes, Closes, Holds, OnMalformed, Opens, Spoils, OnNotification, Step, new_document, Run, CanServe}
+use Rattle.sessions.proofs.Common.{chars, get, Stats, all_branches, AlwaysAnswers, Reading, IsReading, AreStats, ReportsLast, LastEdit, OpenDocument, fits, FileGrammar, Ident, Request, Question, its_text, its_tokens, its_tree, its_folds, its_selections, shutdown, about, stats, Notification, initialized, open_text, change_text, close, malformed, Unfit, unfit_open, unfit_change, unfit_close, request, notification, ignored, invalid, Received, unread, refused, accepted, TextChange, received_in, Answer, folds_reply, selections_reply, published_diagnostics, MalformedChange, IsAnswer, IsAnswerOf, IsCount, IsPublished, shown, Phase, Ready, DocumentState, is_open, is_lost, has_room, State, OnRequest, Changes, Closes, Holds, OnMalformed, Opens, Spoils, OnNotification, Step, new_document, Run, CanServe}
 use Rattle.sessions.proofs.Edits.{IsFit, becomes_fit, some_becomes}
 use Rattle.sessions.proofs.Effects.{opened_fit}
 use Rattle.sessions.proofs.Fits.{step_serves}
@@ -26,39 +26,32 @@ some_answer file always id (Some (is_open d)) fit question = some_answer_of file
 some_answer file always id d fit question = (_, refl)
 
 -- the counts that a reading has, beside the last edit
-abbrev counted : Option LastEdit → Reading → Stats
-counted None r = record { edit = 0; scanned = length r.tokens; tokens = length r.tokens; branches = all_branches r.trees; built = all_branches r.trees; nodes = 0 }
-counted (Some last) r = record { edit = last.number; scanned = last.scanned; tokens = length r.tokens; branches = all_branches r.trees; built = last.built; nodes = 0 }
+abbrev counted : (edit scanned built : ℕ) → Reading → Stats
+counted edit scanned built r = record { edit = edit; scanned = scanned; tokens = length r.tokens; branches = all_branches r.trees; built = built; nodes = 0 }
 
-are_counted : (file : FileGrammar) (d : OpenDocument) (last : Option LastEdit) → d.last ≡ last → (r : Reading) → IsReading file d.text r → (stats : Stats) × AreStats file d stats
-are_counted file d None no_edit r is = (
-  counted None r,
+are_counted : (file : FileGrammar) (d : OpenDocument) (r : Reading) → IsReading file d.text r → (edit scanned built : ℕ) (last : Option LastEdit) → d.last ≡ last
+    → ReportsLast last (counted edit scanned built r) → (stats : Stats) × AreStats file d stats
+are_counted file d r is edit scanned built last same reports = (
+  counted edit scanned built r,
   record {
     reading = r;
     is = is;
     tokens = refl;
     branches = refl;
-    last = subst (λ (l : Option LastEdit). ReportsLast l (counted None r)) (sym no_edit) (refl, refl, refl);
+    last = subst (λ (l : Option LastEdit). ReportsLast l (counted edit scanned built r)) (sym same) reports;
     nodes = omega arith;
   },
 )
-are_counted file d (Some last) edited r is = (
-  counted (Some last) r,
-  record {
-    reading = r;
-    is = is;
-    tokens = refl;
-    branches = refl;
-    last = subst (λ (l : Option LastEdit). ReportsLast l (counted (Some last) r)) (sym edited) (refl, refl, refl);
-    nodes = omega arith;
-  },
-)
+
+some_stats : (file : FileGrammar) (d : OpenDocument) (last : Option LastEdit) → d.last ≡ last → (r : Reading) → IsReading file d.text r → (stats : Stats) × AreStats file d stats
+some_stats file d None same r is = are_counted file d r is 0 (length r.tokens) (all_branches r.trees) None same (refl, refl, refl)
+some_stats file d (Some last) same r is = are_counted file d r is last.number last.scanned last.built (Some last) same (refl, refl, refl)
 
 some_count : (file : FileGrammar) → AlwaysAnswers file → (id : Ident) (o : Option DocumentState)
     → ((d : OpenDocument) → o ≡ Some (is_open d) → fits d.text ≡ true) → (answer : Answer) × IsCount file id o answer
 some_count file always id (Some (is_open d)) fit =
     let r = always.readings d.text (fit d refl) in
-    let stats = are_counted file d d.last refl r.0 r.1 in
+    let stats = some_stats file d d.last refl r.0 r.1 in
     (_, (stats.0, stats.1, refl))
 some_count file always id d fit = (_, refl)
 
@@ -104,47 +97,29 @@ module _ (old : State) (can : CanServe old) where
   some_misses d = (_, _, _, (refl, refl, refl))
 
   some_asks : (phase : Phase) (id : Ident) (call : Request) → SomeStep (OnRequest phase old id call)
-  some_asks New id (initialize unit) = (_, _, _, (refl, refl, refl))
-  some_asks New id shutdown = (_, _, _, (refl, refl, refl))
-  some_asks New id (about uri question) = (_, _, _, (refl, refl, refl))
-  some_asks New id (stats uri) = (_, _, _, (refl, refl, refl))
-  some_asks (Ready unit) id (initialize other) = (_, _, _, (refl, refl, refl))
-  some_asks (Ready unit) id shutdown = (_, _, _, (refl, refl, refl))
   some_asks (Ready unit) id (about uri question) =
       let some = some_answer old.file can.always id (get old.documents uri) (λ d e. can.fit uri d e) question in
       (some.0 ∷ [], None, old, (some.0, some.1, (refl, refl, refl)))
   some_asks (Ready unit) id (stats uri) =
       let some = some_count old.file can.always id (get old.documents uri) (λ d e. can.fit uri d e) in
       (some.0 ∷ [], None, old, (some.0, some.1, (refl, refl, refl)))
-  some_asks Down id call = (_, _, _, (refl, refl, refl))
+  some_asks phase id shutdown = (_, _, _, (refl, refl, refl))
+  some_asks phase id d = (_, _, _, (refl, refl, refl))
 
   some_shows : (phase : Phase) (note : Notification) → SomeStep (OnNotification phase old note)
-  some_shows New initialized = (_, _, _, (refl, refl, refl))
-  some_shows New exit = (_, _, _, (refl, refl, refl))
-  some_shows New (open_text uri version text) = (_, _, _, (refl, refl, refl))
-  some_shows New (change_text uri version changes) = (_, _, _, (refl, refl, refl))
-  some_shows New (close uri) = (_, _, _, (refl, refl, refl))
-  some_shows New (malformed unfit) = (_, _, _, (refl, refl, refl))
-  some_shows (Ready unit) initialized = (_, _, _, (refl, refl, refl))
-  some_shows (Ready unit) exit = (_, _, _, (refl, refl, refl))
   some_shows (Ready unit) (open_text uri version text) = some_opens (has_room uri old.documents) uri (new_document unit version (chars text)) (opened_fit unit version (chars text))
   some_shows (Ready unit) (change_text uri version changes) = some_changes (get old.documents uri) uri version changes refl
   some_shows (Ready unit) (close uri) = some_closes (get old.documents uri) uri
   some_shows (Ready unit) (malformed unfit) = some_misses unfit
-  some_shows Down initialized = (_, _, _, (refl, refl, refl))
-  some_shows Down exit = (_, _, _, (refl, refl, refl))
-  some_shows Down (open_text uri version text) = (_, _, _, (refl, refl, refl))
-  some_shows Down (change_text uri version changes) = (_, _, _, (refl, refl, refl))
-  some_shows Down (close uri) = (_, _, _, (refl, refl, refl))
-  some_shows Down (malformed unfit) = (_, _, _, (refl, refl, refl))
+  some_shows phase initialized = (_, _, _, (refl, refl, refl))
+  some_shows phase d = (_, _, _, (refl, refl, refl))
 
   some_step : (received : Received) → SomeStep (Step old received)
   some_step unread = (_, _, _, (refl, refl, refl))
   some_step (refused (invalid id)) = (_, _, _, (refl, refl, refl))
-  some_step (refused (unknown id)) = (_, _, _, (refl, refl, refl))
-  some_step (refused (params id first)) = (_, _, _, (refl, refl, refl))
   some_step (accepted (request id call)) = some_asks old.phase id call
   some_step (accepted (notification note)) = some_shows old.phase note
+  some_step (refused d) = (_, _, _, (refl, refl, refl))
   some_step (accepted ignored) = (_, _, _, (refl, refl, refl))
 
 pub some_run : (old : State) → CanServe old → (contents : List (List ℕ)) → (answers : List Answer) × (stop : Option ℕ) × (new : State) × Run old contents answers stop new

@@ -1,7 +1,6 @@
 -- What a document is after changes of whose counts none are reported, and what it becomes by those after them.
-use Rattle.std.proofs.Common.{◌≡◌, ◌<◌, ◌+◌, ℕ, ℤ, Bool, true, false, cond, List, [], ◌∷◌, ◌++◌, length, map, take, drop, min, refl, sym, ap, subst, ◌∙◌, inl, inr, arith, Option, Some, None}
+use Rattle.std.proofs.Common.{◌≡◌, ◌<◌, ◌+◌, ℕ, ℤ, Bool, true, false, cond, List, [], ◌∷◌, ◌++◌, length, map, take, drop, min, refl, sym, ap, subst, ◌∙◌, inl, inr, arith, Option, Some, None, append_assoc}
 use Rattle.sessions.proofs.Common.{min-eq_left, length-drop, map-append, take-append-drop, chars, Range, Stats, IsAbove, IsNext, Makes, ReportsLast, edit_of, number_after, number_of, FileGrammar, LastEdit, OpenDocument, fits, TextChange, change_view, Change, Encoding, Loss, TooLarge, MalformedChange, Memory, AreAlikeForNext, IsAfter, DocumentState, is_open, is_lost, edited, Becomes, IsLastAfter}
-use Rattle.std.proofs.lemmas.List.{append_assoc}
 use Rattle.sessions.proofs.Edits.{after, edited_after, edited_fitting}
 
 -- while numbers are left, the next one is above every stamp

@@ -50,9 +50,9 @@ unfoldable pub use Rattle.tables.specs.Tables.{state_after}
 pub use Rattle.tables.specs.declared.decisions.Decided.{Decided}
 pub use Rattle.tables.specs.declared.decisions.Decided.TheVariants.{Clash, Clash as AClash, Moves}
 pub use Rattle.tables.specs.declared.decisions.Move.{Move, Move as TableMove}
-pub use Rattle.tables.specs.declared.decisions.Move.TheVariants.{Accept, Reduce, Shift}
+pub use Rattle.tables.specs.declared.decisions.Move.TheVariants.{Shift}
 pub use Rattle.tables.specs.declared.moves.Call.{Call}
-pub use Rattle.tables.specs.declared.moves.Call.TheVariants.{Accept as ToAccept, Reduce as ToReduce, Shift as ToShift}
+pub use Rattle.tables.specs.declared.moves.Call.TheVariants.{Shift as ToShift}
 pub use Rattle.tables.specs.declared.moves.Decision.{Decision}
 pub use Rattle.tables.specs.declared.moves.Decision.TheVariants.{Agreed, Conflict, Nothing}
 pub use Rattle.tables.specs.declared.progress.ClashAt.{ClashAt}
@@ -70,3 +70,4 @@ pub use Rattle.theory.proofs.Verdicts.{verdict_at_end, verdict_at_kind}
 pub use Rattle.theory.specs.Closure.{ByRules, Close, Goto, IsKernel, Start}
 pub use Rattle.theory.specs.Laws.{HasOneTreeEach}
 pub use Rattle.theory.specs.Machine.{IsStackAfter, StackHasMove, Stay}
+pub use Rattle.std.proofs.lemmas.Grind.{common_steps}

@@ -1,6 +1,7 @@
 -- Where it is decided what items call for, each viable list of kinds has a list of the rules that may follow.
-use Rattle.std.proofs.Common.{◌≡◌, ◌≤◌, ◌<◌, ◌⊎◌, ◌↔◌, ◌+◌, ℕ, zero, suc, Bool, true, false, List, [], ◌∷◌, ◌++◌, length, refl, sym, subst, inl, inr, ⊎_elim, arith, Some, None, slice_get, slice_index, Contains}
-use Rattle.tables.proofs.Common.{IsStrictlyIncreasing, cases_lt, Kind, Token, Invalid, Symbol, Terminal, Nonterminal, Grammar, Production, Tree, Forest, Leaf, Branch, Nil, Cons, IsTree, AreTrees, yield, yields, IsViable, IsSentence, IsExpected, Contains-first, Contains-later, Contains-cases, Contains-none, stack_exists, move_iff_viable, move_iff_sentence, AreMovesDecided, IsAccepted}
+use Rattle.std.proofs.Common.{◌≡◌, ◌≤◌, ◌<◌, ◌⊎◌, ◌↔◌, ◌+◌, ℕ, zero, suc, Bool, true, false, List, [], ◌∷◌, ◌++◌, refl, sym, subst, inl, inr, ⊎_elim, arith, Some, None, slice_get, Contains}
+use Rattle.tables.proofs.Common.{Kind, Token, Symbol, Terminal, Nonterminal, Grammar, Production, Tree, Forest, Leaf, Branch, Nil, Cons, IsTree, AreTrees, yield, yields, IsViable, IsSentence, IsExpected, stack_exists, move_iff_viable, move_iff_sentence, AreMovesDecided, IsAccepted}
+use Rattle.tables.proofs.NumbersInOrder.{AreThose, none_there, put_first, pass_over}
 use Rattle.tables.proofs.Total.{stack_decided}
 
 -- ---- a number above all token rules that a grammar names
@@ -40,17 +41,13 @@ module _ (g : Grammar) (a : ℕ) where
   mutual
     named : (t : Tree) (s : Symbol) → IsTree g t s → Has (Token a) (yield t) → (s ≡ Terminal a) ⊎ (a < above g.productions)
     named (Leaf (Token b)) (Terminal c) is h = ⊎_elim (λ e. inl (let f : b ≡ c = is in cc (e, f))) (λ none. absurd none) h
-    named (Leaf (Token b)) (Nonterminal n) is h = absurd is
-    named (Leaf Invalid) s is h = absurd is
-    named (Branch p ts) (Terminal b) is h = absurd is
     named (Branch p ts) (Nonterminal n) is h =
         let few = above_right g.productions p n is.0 is.1 in
         ⊎_elim (λ below. inr (omega (arith, below, few))) (λ below. inr below) (named_all ts is.0 is.2 h)
+    named t s is h = absurd is
 
     named_all : (ts : Forest) (symbols : List Symbol) → AreTrees g ts symbols → Has (Token a) (yields ts) → (a < above_symbols symbols) ⊎ (a < above g.productions)
     named_all Nil [] are h = absurd h
-    named_all Nil (s ∷ symbols) are h = absurd are
-    named_all (Cons t ts) [] are h = absurd are
     named_all (Cons t ts) (s ∷ symbols) are h =
         ⊎_elim
         (λ first. ⊎_elim (λ e. inl (at_root s symbols e)) (λ below. inr below) (named t s are.0 first))
@@ -64,6 +61,7 @@ module _ (g : Grammar) (a : ℕ) where
         later : (r : Symbol) (rest : List Symbol) → a < above_symbols rest → a < above_symbols (r ∷ rest)
         later (Terminal b) rest l = omega (arith, l)
         later (Nonterminal n) rest l = l
+    named_all ts symbols are h = absurd are
 
   viable_named : (x : List Kind) → IsViable g (x ++ (Token a ∷ [])) → a < above g.productions
   viable_named x v =
@@ -77,57 +75,13 @@ module _ (g : Grammar) (a : ℕ) where
       has_prefix [] h = absurd h
       has_prefix (j ∷ y) h = ⊎_elim (λ e. inl e) (λ more. inr (has_prefix y more)) h
 
--- ---- the numbers below a bound that have a property, in order
+-- ---- the numbers from k on that have a decidable property, in order
 
-record AreThose (P : ℕ → Type 0) (k m : ℕ) (numbers : List ℕ) : Type 0 where
-  from : (j : ℕ) → j < length numbers → k ≤ slice_index numbers j
-  in_order : IsStrictlyIncreasing numbers
-  only : (a : ℕ) → Contains numbers a → P a
-  all : (a : ℕ) → k ≤ a → a < k + m → P a → Contains numbers a
-
-module _ (P : ℕ → Type 0) where
-  put_first : (k m : ℕ) (numbers : List ℕ) → P k → AreThose P (suc k) m numbers → AreThose P k (suc m) (k ∷ numbers)
-  put_first k m numbers is rest = record {
-    from = first_from;
-    in_order = rising;
-    only = λ a c. ⊎_elim (λ e. subst P e is) (λ later. rest.only a later) (Contains-cases k numbers a c);
-    all = λ a low high has. ⊎_elim (λ below. let same : a ≡ k = omega (arith, low, below) in subst (Contains (k ∷ numbers)) (sym same) (Contains-first k numbers))
-        (λ over. Contains-later k numbers a (rest.all a over (omega (arith, high)) has)) (cases_lt a (suc k));
-  }
-    where
-      first_from : (j : ℕ) → j < length (k ∷ numbers) → k ≤ slice_index (k ∷ numbers) j
-      first_from zero l = omega arith
-      first_from (suc j) l = let low = rest.from j (omega (arith, l)) in omega (arith, low)
-
-      rising : IsStrictlyIncreasing (k ∷ numbers)
-      rising zero l = let low = rest.from 0 (omega (arith, l)) in omega (arith, low)
-      rising (suc j) l =
-          let next : suc (j + 1) ≡ suc j + 1 = omega arith in
-          subst (λ n. slice_index (k ∷ numbers) (suc j) < slice_index (k ∷ numbers) n) next (rest.in_order j (omega (arith, l)))
-
-  pass_over : (k m : ℕ) (numbers : List ℕ) → (P k → ⊥) → AreThose P (suc k) m numbers → AreThose P k (suc m) numbers
-  pass_over k m numbers not_it rest = record {
-    from = λ j l. let low = rest.from j l in omega (arith, low);
-    in_order = rest.in_order;
-    only = rest.only;
-    all = λ a low high has. ⊎_elim (λ below. let same : a ≡ k = omega (arith, low, below) in absurd (not_it (subst P same has)))
-        (λ over. rest.all a over (omega (arith, high)) has) (cases_lt a (suc k));
-  }
-
-  those : (decided : (a : ℕ) → P a ⊎ (P a → ⊥)) (m k : ℕ) → (numbers : List ℕ) × AreThose P k m numbers
-  those decided zero k = (
-    [],
-    record {
-      from = λ j l. absurd (omega (arith, l));
-      in_order = λ j l. absurd (omega (arith, l));
-      only =
-          λ a c. absurd (Contains-none a c);
-      all = λ a low high has. absurd (omega (arith, low, high));
-    },
-  )
-  those decided (suc m) k =
-      let rest = those decided m (suc k) in
-      ⊎_elim (λ is. (k ∷ rest.0, put_first k m rest.0 is rest.1)) (λ not_it. (rest.0, pass_over k m rest.0 not_it rest.1)) (decided k)
+those : (P : ℕ → Type 0) → ((a : ℕ) → P a ⊎ (P a → ⊥)) → (m k : ℕ) → (numbers : List ℕ) × AreThose P k m numbers
+those P decided zero k = ([], none_there P k)
+those P decided (suc m) k =
+    let rest = those P decided m (k + 1) in
+    ⊎_elim (λ is. (k ∷ rest.0, put_first P k m rest.0 is rest.1)) (λ not_it. (rest.0, pass_over P k m rest.0 not_it rest.1)) (decided k)
 
 -- ---- what may follow
 

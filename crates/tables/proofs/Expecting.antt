@@ -1,6 +1,7 @@
 -- The moves of a state are what is expected.
-use Rattle.std.proofs.Common.{◌≡◌, ◌<◌, ◌≤◌, ◌+◌, ◌↔◌, Bool, true, false, ℕ, zero, suc, List, ◌∷◌, ◌++◌, [], Option, Some, None, Contains, length, drop, slice_index_or, slice_index, refl, sym, ap, ◌∙◌, subst, inl, inr, ⊎_elim, arith, is_some, if◌then◌else◌}
-use Rattle.tables.proofs.Common.{IsStrictlyIncreasing, cases_lt, drop_all, get_or-drop, get_or_past, drop-cons, Kind, Token, Symbol, Grammar, Tree, HaveRoots, HasMove, IsSentence, IsViable, Contains-first, Contains-later, Contains-cases, Contains-none, IsStackAfter, StackHasMove, move_iff_viable, move_iff_sentence, roots_unique, Move, plain, AreExpected, in_file_order, rules_with_move, IsAction, IsAccepted}
+use Rattle.std.proofs.Common.{◌≡◌, ◌<◌, ◌≤◌, ◌+◌, ◌↔◌, Bool, true, false, ℕ, suc, List, ◌∷◌, ◌++◌, [], Option, Some, None, length, drop, slice_index_or, refl, sym, ap, ◌∙◌, subst, inl, inr, arith, is_some, if◌then◌else◌}
+use Rattle.tables.proofs.Common.{cases_lt, drop_all, get_or-drop, get_or_past, drop-cons, Kind, Token, Symbol, Grammar, Tree, HaveRoots, HasMove, IsSentence, IsViable, IsStackAfter, StackHasMove, move_iff_viable, move_iff_sentence, roots_unique, Move, plain, AreExpected, in_file_order, rules_with_move, IsAction, IsAccepted}
+use Rattle.tables.proofs.NumbersInOrder.{AreThose, none_there, pass_over, put_first}
 
 -- the rules with a move, from one place of a row on
 pub rules_from : (moves : List (Option Move)) (k : ℕ) → k < length moves → rules_with_move k (drop k moves)
@@ -28,39 +29,14 @@ passed_over moves k at_end l e = ap (λ rules. in_file_order rules at_end)
 pub rules_shown : (moves : List (Option Move)) (k : ℕ) (at_end : Bool) → length moves ≤ k → in_file_order (rules_with_move k (drop k moves)) at_end ≡ (if at_end then None ∷ [] else [])
 rules_shown moves k at_end l = ap (λ rest. in_file_order (rules_with_move k rest) at_end) (drop_all k moves l)
 
--- a rule that is listed has a move
-has_move : (k : ℕ) (moves : List (Option Move)) (a : ℕ) → Contains (rules_with_move k moves) a → (j : ℕ) × (j < length moves) × (a ≡ k + j) × (is_some (slice_index_or moves j None) ≡ true)
-has_move k [] a c = absurd (Contains-none a c)
-has_move k (None ∷ moves) a c = let x = has_move (k + 1) moves a c in let l = x.1 in let e = x.2 in (suc x.0, omega (arith, l), omega (arith, e), x.3)
-has_move k (Some m ∷ moves) a c =
-    ⊎_elim
-    (λ e. (0, omega arith, omega (arith, e), refl))
-    (λ d. let x = has_move (k + 1) moves a d in let l = x.1 in let e = x.2 in (suc x.0, omega (arith, l), omega (arith, e), x.3))
-    (Contains-cases k (rules_with_move (k + 1) moves) a c)
-
--- and one with a move is listed
-is_shown : (k : ℕ) (moves : List (Option Move)) (j : ℕ) → j < length moves → is_some (slice_index_or moves j None) ≡ true → Contains (rules_with_move k moves) (k + j)
-is_shown k [] j l e = absurd (omega (arith, l))
-is_shown k (None ∷ moves) zero l e = absurd (cc e)
-is_shown k (Some m ∷ moves) zero l e = let same : k ≡ k + 0 = omega arith in subst (Contains (k ∷ rules_with_move (k + 1) moves)) same (Contains-first k (rules_with_move (k + 1) moves))
-is_shown k (None ∷ moves) (suc j) l e = let same : k + 1 + j ≡ k + suc j = omega arith in subst (Contains (rules_with_move (k + 1) moves)) same (is_shown (k + 1) moves j (omega (arith, l)) e)
-is_shown k (Some m ∷ moves) (suc j) l e = let same : k + 1 + j ≡ k + suc j = omega arith in subst (Contains (k ∷ rules_with_move (k + 1) moves)) same
-    (Contains-later k (rules_with_move (k + 1) moves) (k + 1 + j) (is_shown (k + 1) moves j (omega (arith, l)) e))
-
--- the rules are listed in file order
-least : (k : ℕ) (moves : List (Option Move)) (j : ℕ) → j < length (rules_with_move k moves) → k ≤ slice_index (rules_with_move k moves) j
-least k [] j l = absurd (omega (arith, l))
-least k (None ∷ moves) j l = let n = least (k + 1) moves j l in omega (arith, n)
-least k (Some m ∷ moves) zero l = omega arith
-least k (Some m ∷ moves) (suc j) l = let n = least (k + 1) moves j (omega (arith, l)) in omega (arith, n)
-
-increasing : (k : ℕ) (moves : List (Option Move)) → IsStrictlyIncreasing (rules_with_move k moves)
-increasing k [] j l = absurd (omega (arith, l))
-increasing k (None ∷ moves) j l = increasing (k + 1) moves j l
-increasing k (Some m ∷ moves) zero l = let n = least (k + 1) moves 0 (omega (arith, l)) in omega (arith, n)
-increasing k (Some m ∷ moves) (suc j) l =
-    let next : suc (j + 1) ≡ suc j + 1 = omega arith in
-    subst (λ n. slice_index (k ∷ rules_with_move (k + 1) moves) (suc j) < slice_index (k ∷ rules_with_move (k + 1) moves) n) next (increasing (k + 1) moves j (omega (arith, l)))
+-- the rules with a move are those with a property that says which have one
+those_shown : (P : ℕ → Type 0) (k : ℕ) (moves : List (Option Move)) → ((j a : ℕ) → a ≡ k + j → (is_some (slice_index_or moves j None) ≡ true) ↔ P a)
+    → AreThose P k (length moves) (rules_with_move k moves)
+those_shown P k [] each = none_there P k
+those_shown P k (None ∷ moves) each = pass_over P k (length moves) (rules_with_move (k + 1) moves) (λ is. cc ((each 0 k (omega arith)).1 is))
+    (those_shown P (k + 1) moves (λ j a e. each (suc j) a (omega (arith, e))))
+those_shown P k (Some m ∷ moves) each = put_first P k (length moves) (rules_with_move (k + 1) moves) ((each 0 k (omega arith)).0 refl)
+    (those_shown P (k + 1) moves (λ j a e. each (suc j) a (omega (arith, e))))
 
 module _ (g : Grammar) (accepted : IsAccepted g) (x : List Kind) (stack : List Tree) (prefix : List Symbol) (after : IsStackAfter g x stack) (roots : HaveRoots g stack prefix) where
   move_shown : (next : Option Kind) (o : Option Move) → IsAction g prefix next o → (is_some o ≡ true) ↔ StackHasMove g stack next
@@ -89,27 +65,28 @@ module _ (g : Grammar) (accepted : IsAccepted g) (x : List Kind) (stack : List T
     at_rule : (a : ℕ) → slice_index_or rules_row a None ≡ slice_index_or row (a + 1) None
     at_rule a = let next : 1 + a ≡ a + 1 = omega arith in get_or-drop 1 row a None ∙ ap (λ n. slice_index_or row n None) next
 
-    shown_viable : (a : ℕ) → Contains (rules_with_move 0 rules_row) a → IsViable g (x ++ (Token a ∷ []))
-    shown_viable a c =
-        let m = has_move 0 rules_row a c in
-        let e = m.2 in
-        let same : m.0 ≡ a = omega (arith, e) in
-        let moves = subst (λ o. is_some o ≡ true) (at_rule m.0) m.3 in
-        (rule_expected a (slice_index_or row (a + 1) None) (each a)).0 (subst (λ j. is_some (slice_index_or row (j + 1) None) ≡ true) same moves)
+    rule_shown : (j a : ℕ) → a ≡ 0 + j → (is_some (slice_index_or rules_row j None) ≡ true) ↔ IsViable g (x ++ (Token a ∷ []))
+    rule_shown j a e =
+        let same : a ≡ j = omega (arith, e) in
+        subst (λ o. (is_some o ≡ true) ↔ IsViable g (x ++ (Token a ∷ []))) (ap (λ n. slice_index_or row (n + 1) None) same ∙ sym (at_rule j))
+        (rule_expected a (slice_index_or row (a + 1) None) (each a))
 
-    viable_shown : (a : ℕ) → IsViable g (x ++ (Token a ∷ [])) → Contains (rules_with_move 0 rules_row) a
-    viable_shown a v =
-        let moves = subst (λ o. is_some o ≡ true) (sym (at_rule a)) ((rule_expected a (slice_index_or row (a + 1) None) (each a)).1 v) in
-        elim (cases_lt a (length rules_row)) [
-          | inl l ↦ let same : 0 + a ≡ a = omega arith in subst (Contains (rules_with_move 0 rules_row)) same (is_shown 0 rules_row a l moves)
-          | inr far ↦ absurd (let none = subst (λ o. is_some o ≡ true) (get_or_past rules_row a None far) moves in cc none)
-        ]
+    viable_within : (a : ℕ) → IsViable g (x ++ (Token a ∷ [])) → a < 0 + length rules_row
+    viable_within a v = elim (cases_lt a (length rules_row)) [
+      | inl l ↦ omega (arith, l)
+      | inr far ↦ absurd (let none = subst (λ o. is_some o ≡ true) (get_or_past rules_row a None far) ((rule_shown a a (omega arith)).1 v) in cc none)
+    ]
 
     -- what has a move in the state's row is what may come next
     pub all_expected : AreExpected g x (in_file_order (rules_with_move 0 rules_row) (is_some (slice_index_or row 0 None)))
-    all_expected = (
-      rules_with_move 0 rules_row,
-      is_some (slice_index_or row 0 None),
-      record { in_order = increasing 0 rules_row; each = λ a. (shown_viable a, viable_shown a); ends = end_expected (slice_index_or row 0 None) end },
-      refl,
-    )
+    all_expected =
+        let shown = those_shown (λ a. IsViable g (x ++ (Token a ∷ []))) 0 rules_row rule_shown in (
+          rules_with_move 0 rules_row,
+          is_some (slice_index_or row 0 None),
+          record {
+            in_order = shown.in_order;
+            each = λ a. (shown.only a, λ v. shown.all a (omega arith) (viable_within a v) v);
+            ends = end_expected (slice_index_or row 0 None) end;
+          },
+          refl,
+        )

@@ -10,6 +10,7 @@ pub mod Right
 pub mod Finishing
 pub mod SetCount
 pub mod RowsOfPrefix
+pub mod NumbersInOrder
 pub mod Expecting
 pub mod StateDecides
 pub mod Total

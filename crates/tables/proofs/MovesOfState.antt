@@ -1,11 +1,11 @@
 -- The moves of a state, and the gotos and moves of one state more.
 use Rattle.std.proofs.Common.{◌≡◌, ◌+◌, ◌<◌, ℕ, List, [], ◌∷◌, ◌++◌, Option, Some, None, MatchOption, All, drop, length, length-append, slice_index_or, refl, sym, ap, ◌∙◌, subst, inl, inr, ⊎_elim, arith, IfSome, option_map}
-use Rattle.tables.proofs.Common.{cases_lt, get_or-drop, length-drop, Symbol, Terminal, Nonterminal, Grammar, LrItem, IsValid, LrShift, HasMove, HasItem, kind_of, ByRules, Goto, rules_valid, valid_rules, Decided, Moves, AClash, Move, Shift, Reduce, Accept, Item, Call, ToShift, ToReduce, ToAccept, ClashAt, IsOnlyMove, IsMoveAt, AreMoves, IsClashAt, Made, AddsMoves, AreAllMoves, AreMade, kernel_at, GoesOn, IsStep, IsRow, AreGotos, HasSteps, lookahead_at, Shape, IsKnown, move_of, chosen, AreChosen, IsClash, IsDecided, IsItem, HasKernel, HasSet, number, lookahead_small, symbol_of-number, each_more, step_goes_on}
+use Rattle.tables.proofs.Common.{cases_lt, get_or-drop, length-drop, Symbol, Terminal, Nonterminal, Grammar, LrItem, IsValid, LrShift, HasMove, HasItem, kind_of, ByRules, Goto, rules_valid, valid_rules, Decided, Moves, AClash, Move, Shift, Item, Call, ToShift, ClashAt, IsOnlyMove, IsMoveAt, AreMoves, IsClashAt, Made, AddsMoves, AreAllMoves, AreMade, kernel_at, GoesOn, IsStep, IsRow, AreGotos, HasSteps, lookahead_at, Shape, IsKnown, move_of, chosen, AreChosen, IsClash, IsDecided, IsItem, HasKernel, HasSet, number, lookahead_small, symbol_of-number, each_more, step_goes_on}
 use Rattle.tables.specs.declared.decisions.Clash.{Clash}
 use Rattle.tables.proofs.DecisionOfPrefix.{no_move, the_move, is_conflict}
 
 module _ (g : Grammar) where
-  shift_item : (prefix : List Symbol) (a : ℕ) (i : LrItem) (rest : List Symbol) → IsValid g prefix i → i.after ≡ Terminal a ∷ rest → HasItem g (prefix ++ Terminal a ∷ [])
+  pub shift_item : (prefix : List Symbol) (a : ℕ) (i : LrItem) (rest : List Symbol) → IsValid g prefix i → i.after ≡ Terminal a ∷ rest → HasItem g (prefix ++ Terminal a ∷ [])
   shift_item prefix a i rest v e =
       (_, rules_valid g (Goto (subst (λ y. ByRules g prefix (record { production = i.production; before = i.before; after = y; look = i.look })) e (valid_rules g prefix i v))))
 
@@ -25,10 +25,7 @@ module _ (g : Grammar) where
         → IsOnlyMove g prefix look (move_of c) → IsMoveAt g kernels prefix look (chosen row look c)
     chosen_move None ToShift step m = absurd (cc m.has.calls.3)
     chosen_move (Some a) ToShift step m = shift_leads a (slice_index_or row a None) step m
-    chosen_move None (ToReduce p) step m = (m, tt)
-    chosen_move (Some a) (ToReduce p) step m = (m, tt)
-    chosen_move None ToAccept step m = (m, tt)
-    chosen_move (Some a) ToAccept step m = (m, tt)
+    chosen_move look c step m = (m, tt)
 
 module _ (g : Shape) (kernels : List (List Item)) (s : ℕ) (row : List (Option ℕ)) (is_row : IsRow g kernels s row) where
   known_number : (x : Symbol) → IsKnown g x → number g.grammar x < g.grammar.rules + g.nonterminals
@@ -91,10 +88,8 @@ module _ (g : Shape) (old new : List (List Item)) (e : GoesOn old new) where
   }
     where
       stay : (prefix : List Symbol) (look : Option ℕ) (m : Option Move) → IsMoveAt g.grammar old prefix look m → IsMoveAt g.grammar new prefix look m
-      stay prefix look None x = x
       stay prefix look (Some (Shift t)) (x, (a, f, b, k)) = (x, (a, f, (let n = e.longer in omega (arith, b, n)), subst (λ y. HasKernel g.grammar y (prefix ++ Terminal a ∷ [])) (sym (e.same t b)) k))
-      stay prefix look (Some (Reduce p)) x = x
-      stay prefix look (Some Accept) x = x
+      stay prefix look m x = x
 
   steps_stay : (s : ℕ) → s < length old → HasSteps g old s → HasSteps g new s
   steps_stay s l h x k = let y = h x k in (y.0, step_goes_on g.grammar old new s x y.0 e l y.1)

@@ -1,17 +1,15 @@
 -- Where it is decided what items call for, each list of kinds has a verdict.
 use Rattle.std.proofs.Common.{◌≡◌, ◌⊎◌, ℕ, List, [], ◌∷◌, ◌++◌, Option, Some, None, length, refl, sym, subst, inl, inr, ⊎_elim, append_assoc}
-use Rattle.tables.proofs.Common.{append-nil, Kind, Token, Symbol, Terminal, Grammar, Tree, Leaf, HaveRoots, Verdict, HasTree, FaultAt, FaultAtEnd, IsVerdict, IsTreeOf, HasMove, HasItem, ByRules, Start, Goto, Stay, IsStackAfter, StackHasMove, stack_exists, rules_valid, valid_rules, roots-append, move_iff_viable, move_iff_sentence, roots_unique, verdict_at_kind, verdict_at_end, AreMovesDecided, IsAccepted}
+use Rattle.tables.proofs.Common.{append-nil, Kind, Token, Symbol, Terminal, Grammar, Tree, Leaf, HaveRoots, Verdict, HasTree, FaultAt, FaultAtEnd, IsVerdict, IsTreeOf, HasMove, HasItem, Start, Stay, IsStackAfter, StackHasMove, stack_exists, rules_valid, roots-append, move_iff_viable, move_iff_sentence, roots_unique, verdict_at_kind, verdict_at_end, AreMovesDecided, IsAccepted}
+use Rattle.tables.proofs.MovesOfState.{shift_item}
 use Rattle.definitions.specs.Items.{Shift}
 
 module _ (g : Grammar) where
   -- after a token rule that the items call for, an item is valid
   item_after : (symbols : List Symbol) (k : Kind) → HasMove g symbols (Some k) Shift → (a : ℕ) × (k ≡ Token a) × HasItem g (symbols ++ (Terminal a ∷ []))
   item_after symbols k m =
-      let i = m.item in
-      let a = m.calls.0 in
-      let rule : k ≡ Token a = let e : Some k ≡ Some (Token a) = m.calls.3 in cc e in
-      let at = subst (λ after. ByRules g symbols (record { production = i.production; before = i.before; after = after; look = i.look })) m.calls.2 (valid_rules g symbols i m.valid) in
-      (a, rule, (_, rules_valid g (Goto at)))
+      let rule : k ≡ Token m.calls.0 = let e : Some k ≡ Some (Token m.calls.0) = m.calls.3 in cc e in
+      (m.calls.0, rule, shift_item g symbols m.calls.0 m.item m.calls.1 m.valid m.calls.2)
 
   -- the roots of what is on the stack are a prefix with an item
   stack_item : (x : List Kind) (stack : List Tree) → IsStackAfter g x stack → (symbols : List Symbol) × HaveRoots g stack symbols × HasItem g symbols

@@ -1,5 +1,5 @@
 -- What the proofs of this crate cite of definitions, of types and of other crates, passed on from one place. Declares nothing.
-pub use Rattle.std.specs.Prelude.{◌*◌, ◌==◌, ◌||◌, ◌⊎◌, Bool, false, nat_lt, not, slice_index, suc, zero}
+pub use Rattle.std.specs.Prelude.{Bool, false, nat_lt, not, slice_index, suc, zero, ◌*◌, ◌==◌, ◌||◌, ◌⊎◌}
 pub use Rattle.std.specs.Iterator.{YieldsFirst}
 pub use Rattle.std.specs.List.{concat, prefix_len}
 pub use Rattle.std.specs.Str.{IsAscii, IsCharBoundary, IsUtf8, chars}
@@ -19,7 +19,7 @@ pub use Rattle.seqtree.proofs.Joined.{in_order}
 pub use Rattle.definitions.proofs.Characters.{IsText-chars, IsText-edit}
 pub use Rattle.definitions.proofs.OffsetOfPosition.{ended, ended-cons, none_ended}
 pub use Rattle.definitions.proofs.OffsetsInLine.{in_line_end}
-pub use Rattle.definitions.specs.Text.{IsCharacter, IsText, edit, ends_break, unit}
+pub use Rattle.definitions.specs.Text.{IsCharacter, IsText, edit, ends_break, span, unit}
 unfoldable pub use Rattle.definitions.specs.Text.{break_ends, changed, line_from, line_of, line_start, position, units}
 pub use Rattle.definitions.specs.declared.Position.{Position}
 pub use Rattle.definitions.specs.declared.Unit.{Unit as Encoding}

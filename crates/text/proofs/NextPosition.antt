@@ -1,7 +1,6 @@
 -- How the position of an offset follows from that of the offset before it.
 use Rattle.text.proofs.Common.{zero, suc, ◌*◌, ◌⊎◌, Bool, false, not, ◌||◌, ◌==◌, nat_lt, slice_index, prefix_len, cases_lt, cases_Bool, false≢true, ne_eqb, len_utf8_bounds, drop_more, get_or-drop, get_or-take, length-take, take_more, take_all, length-prefix_len, prefix_len_passes, sum_by_push, sum_by-cons, Position, Encoding, Utf8, Utf16, Utf32, ends_break, line_of, line_start, line_from, unit, units, position, in_line_end}
-use Rattle.std.specs.Prelude.{◌≡◌, ℕ, ◌+◌, ◌-◌, ◌<◌, ◌≤◌, true, List, [], ◌∷◌, length, take, drop}
-use Rattle.std.proofs.Common.{arith, cond, length-drop, refl, sym, ap, subst, inl, inr, ◌∙◌}
+use Rattle.std.proofs.Common.{arith, cond, length-drop, refl, sym, ap, subst, inl, inr, ◌∙◌, ◌≡◌, ℕ, ◌+◌, ◌-◌, ◌<◌, ◌≤◌, true, List, [], ◌∷◌, length, take, drop}
 use Rattle.text.proofs.Lines.{Reached, Reached-start, Reached-break, Reached-same, Reached-end}
 
 -- the character is of the line
@@ -125,10 +124,6 @@ count-more encoding t s i l m =
     ∙ ap (units encoding) (take_more (line_from s t) (i - s) 0 m)
     ∙ sum_by_push (unit encoding) (take (i - s) (line_from s t)) (slice_index (line_from s t) (i - s))
     ∙ ap (λ c. count encoding t s i + unit encoding c) next
-
--- a position as its two numbers
-place : ℕ → ℕ → Position
-place l c = record { line = l; character = c }
 
 pub position-start : (encoding : Encoding) (t : List ℕ) → ◌≡◌ {A = Position} (record { line = 0; character = 0 }) (position encoding t 0)
 unfolding position

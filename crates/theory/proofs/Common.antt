@@ -10,13 +10,13 @@ pub use Rattle.definitions.specs.Nodes.{Below, Past, StandsIn, Top, all_branches
 pub use Rattle.definitions.specs.Sentences.{AllProductive, FaultAt, FaultAtEnd, HasTree, IsProductive, IsSentence, IsTreeOf, IsUsed, IsVerdict, IsViable, On_right, The_start, Verdict}
 pub use Rattle.definitions.specs.Settled.{At, Down, IsSettled, IsSettledIn, Next, This, Way, WayAmong}
 pub use Rattle.definitions.specs.TokenEdits.{Splice}
-pub use Rattle.definitions.specs.TreeEdits.{AreStampedExactly, Built, IsKept, IsMoved, IsTouched, Kept, LiesInKept, New, Nothing, Stamped, StampedBelow, StampedBranch, StampedCons, StampedForest, StampedIn, StampedLeaf, StampedNil, StampedPast, StampedTop, plain, plain_all, plain_trees, stamped_trees}
+pub use Rattle.definitions.specs.TreeEdits.{AreStampedExactly, Built, IsKept, Kept, LiesInKept, New, Nothing, Stamped, StampedBelow, StampedBranch, StampedCons, StampedForest, StampedIn, StampedLeaf, StampedNil, StampedPast, StampedTop, plain, plain_all, plain_trees, stamped_trees}
 pub use Rattle.definitions.specs.Trees.{AreTrees, Branch, Cons, Forest, Grammar, HasDistinctProductions, HasProduction, HaveRoots, IsTree, Leaf, Nil, Production, Tree, all_kinds, forest, trees, yield, yields}
 pub use Rattle.definitions.specs.declared.Kind.{Kind}
 pub use Rattle.definitions.specs.declared.Kind.TheVariants.{Invalid, Rule as Token}
 pub use Rattle.definitions.specs.declared.Symbol.{Symbol}
 pub use Rattle.definitions.specs.declared.Symbol.TheVariants.{Nonterminal, Rule as Terminal}
-pub use Rattle.theory.specs.Closure.{ByRules, Close, Goto, IsFirst, IsKernel, Start, start_item}
+pub use Rattle.theory.specs.Closure.{ByRules, Close, Goto, IsFirst, IsKernel, Start}
 pub use Rattle.theory.specs.First.{After, At_once, Drop, InFirst, IsNullable, MayFollow, None_left, Within}
 pub use Rattle.theory.specs.Laws.{AreAnswer, AreStampedByRun, StampsExactly}
 pub use Rattle.theory.specs.Machine.{IsStackAfter, Reduced, Reduces, Run, Shifted, Shifts, StackHasMove, Stay, look_at}

@@ -90,11 +90,7 @@ only_move prefix i next Shift (inl h) c =
     let after_is : Nonterminal 0 ∷ [] ≡ Terminal c.0 ∷ c.1 = ap (λ i. i.after) (sym h.1) ∙ c.2 in
     let same : Nonterminal 0 ≡ Terminal c.0 = head-eq_of_cons-eq after_is in
     absurd (cc same)
-only_move prefix i next (Reduce p) (inl h) c = let e : Nonterminal 0 ∷ [] ≡ [] = ap (λ i. i.after) (sym h.1) ∙ c.1 in absurd (cc e)
-only_move prefix i next Accept (inl h) c = let e : Nonterminal 0 ∷ [] ≡ [] = ap (λ i. i.after) (sym h.1) ∙ c.1 in absurd (cc e)
 only_move prefix i next Shift (inr (inl h)) c = ap move_at (sym h.0)
-only_move prefix i next (Reduce p) (inr (inl h)) c = let e : Terminal 0 ∷ [] ≡ [] = ap (λ i. i.after) (sym h.1) ∙ c.1 in absurd (cc e)
-only_move prefix i next Accept (inr (inl h)) c = let e : Terminal 0 ∷ [] ≡ [] = ap (λ i. i.after) (sym h.1) ∙ c.1 in absurd (cc e)
 only_move prefix i next Shift (inr (inr (inl h))) c = let e : [] ≡ Terminal c.0 ∷ c.1 = ap (λ i. i.after) (sym h.1) ∙ c.2 in absurd (cc e)
 only_move prefix i next (Reduce p) (inr (inr (inl h))) c = let e : None ≡ Some p = ap (λ i. i.production) (sym h.1) ∙ c.0 in absurd (cc e)
 only_move prefix i next Accept (inr (inr (inl h))) c = ap move_at (sym h.0)
@@ -104,6 +100,8 @@ only_move prefix i next (Reduce p) (inr (inr (inr h))) c =
     let same : p ≡ 0 = cc e in
     ap Reduce same ∙ ap move_at (sym h.0)
 only_move prefix i next Accept (inr (inr (inr h))) c = let e : Some 0 ≡ None = ap (λ i. i.production) (sym h.1) ∙ c.0 in absurd (cc e)
+only_move prefix i next d (inl h) c = let e : Nonterminal 0 ∷ [] ≡ [] = ap (λ i. i.after) (sym h.1) ∙ c.1 in absurd (cc e)
+only_move prefix i next d (inr (inl h)) c = let e : Terminal 0 ∷ [] ≡ [] = ap (λ i. i.after) (sym h.1) ∙ c.1 in absurd (cc e)
 
 free : HasNoConflict alone
 free prefix next one two c =

@@ -59,13 +59,11 @@ nested {t1 = t1} {t2 = t2} (Past {u = u} {lefts = l1} v) (Past {lefts = l2} w) n
 -- a node before another is among its left siblings
 left_of : {l l1 l2 : List Tree} {t1 t2 : Tree} → StandsIn l l1 t1 → StandsIn l l2 t2 → 0 < length (yield t1) → 0 < length (yield t2)
     → length (all_kinds l1) + length (yield t1) ≤ length (all_kinds l2) → StandsIn l2 l1 t1
-left_of Top Top n m le = absurd (omega (arith, n, le))
+left_of v Top n m le = absurd (omega (arith, n, le))
 left_of Top (Below {us = us} w) n m le = absurd (omega (arith, m, le, below_length us w))
 left_of Top (Past w) n m le = Top
-left_of (Below v) Top n m le = absurd (omega (arith, n, le))
 left_of (Below v) (Below w) n m le = left_of v w n m le
 left_of (Below v) (Past w) n m le = Below v
-left_of (Past v) Top n m le = absurd (omega (arith, n, le))
 left_of (Past {lefts = l1} v) (Below {us = us} w) n m le = absurd (omega (arith, le, m, below_length us w, length-append (yields us) (all_kinds l1)))
 left_of (Past {u = u} {lefts = l1} v) (Past {lefts = l2} w) n m le = Past (left_of v w n m (omega (arith, le, length-append (yield u) (all_kinds l1), length-append (yield u) (all_kinds l2))))
 
@@ -141,8 +139,7 @@ module _ (g : Grammar) where
         inr (record {
           read = x;
           split = tail-eq_of_cons-eq e;
-          run = subst (λ v. Run g v (s ++ (Leaf k ∷ [])) x b) l
-              (subst (λ v. Run g look (s ++ (Leaf v ∷ [])) x b) (sym (head-eq_of_cons-eq e)) p);
+          run = subst (λ v. Run g v (s ++ (Leaf k ∷ [])) x b) l (subst (λ v. Run g look (s ++ (Leaf v ∷ [])) x b) (sym (head-eq_of_cons-eq e)) p);
         })
 
     module _ (productive : AllProductive g) (below : List Tree) (w : Tree) (rest : List Kind) (can : CanReuse g below w rest) where
@@ -201,8 +198,7 @@ module _ (g : Grammar) where
                 length-append (all_kinds s) (all_kinds lefts),
                 ap length kinds,
                 ap length (tries_kinds g d),
-                length-append
-                    (yield t) (all_kinds ts),
+                length-append (yield t) (all_kinds ts),
                 length-append (all_kinds lefts) (yield w ++ rest),
                 ap length p.split,
                 length-append p.read (all_kinds ts),

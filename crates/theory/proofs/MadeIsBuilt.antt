@@ -165,13 +165,12 @@ module _ (g : Grammar) where
             (λ b. ⊎_elim (λ t. absurd (no_kept (taken_lies s old new run (taken_is_kept g free productive s old input prep run) below (Branch q vs) t))) (λ m. m) b)
             (made_or_taken run below q vs w)
 
-  module _ (free : HasNoConflict g) (productive : AllProductive g) where
     -- where the made branches carry the edit's number and no others do, the stamps are exact
     pub stamps_exact : (n : ℕ) (s : Splice) (old input : List Tree) → IsPrepared s old input → (new : List Stamped) {input' : List Tree} (run : Goes_on g [] input (plain_trees new) input')
         → ((at : List Tree) (p : ℕ) (us : Forest) → StandsIn (plain_trees new) at (Branch p us) → 0 < length (yields us) → Taken g [] at p us (all_kinds input))
         → ((below : List Tree) (p born : ℕ) (us : StampedForest) → StampedIn new below p born us → (born ≡ n) ↔ MakesAt g run below (Branch p (plain_all us))) → AreStampedExactly n s old new
     stamps_exact n s old input prep new run can stamps below p born us w =
-        let both = made_iff_new free productive s old input prep run can below p (plain_all us) (stamped_stands w) in
+        let both = made_iff_new s old input prep run can below p (plain_all us) (stamped_stands w) in
         let stamp = stamps below p born us w in
         ((λ e. both.0 (stamp.0 e)), (λ h. stamp.1 (both.1 h)))
 

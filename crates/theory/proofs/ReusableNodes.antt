@@ -3,9 +3,8 @@
 use Rattle.std.proofs.Common.{◌≡◌, ℕ, List, [], ◌∷◌, ◌++◌, Option, Some, None, refl, sym, ap, ◌∙◌, subst, append_assoc}
 use Rattle.theory.proofs.Common.{append-nil, head-eq_of_cons-eq, tail-eq_of_cons-eq, Kind, Token, Invalid, Symbol, Terminal, Nonterminal, Grammar, HasProduction, Tree, Forest, Leaf, Branch, Nil, Cons, IsTree, AreTrees, forest, yield, yields, HaveRoots, all_kinds, IsTreeOf, tokens, first, Here, Reaches, Move, Shift, Accept, kind_of, HasMove, look_at, Run, Stay, StandsIn, Top, Below, Past}
 use Rattle.theory.proofs.Words.{words, yields-words, tokens-append}
-use Rattle.theory.proofs.Simulation.{look-append, look-tokens, run_join, leaf_of, reach_next, roots-append, roots-trees}
+use Rattle.theory.proofs.Simulation.{head_run, tree_run, moved_dot, look-append, see_word, look-yields, run_join, leaf_of, reach_next, roots-trees}
 use Rattle.theory.proofs.StackIsRead.{yields-forest, kinds-trees, roots-forest}
-use Rattle.theory.proofs.PathToLeaf.{head_run}
 use Rattle.theory.proofs.Knuth.{end_called, inside_called, end_move}
 use Rattle.theory.proofs.Theorems.{accept_called}
 use Rattle.theory.proofs.Stack.{nowhere}
@@ -17,10 +16,6 @@ module _ (g : Grammar) where
   moves_at : (symbols : List Symbol) (one two : Option Kind) → one ≡ two → Moves symbols one → Moves symbols two
   moves_at symbols one two e m = subst (Moves symbols) e m
 
-  -- after the trees that are left stands z
-  sees : (ts : Forest) (ss : List Symbol) (z : List ℕ) → AreTrees g ts ss → kind_of (first (words ts ++ z)) ≡ look_at (yields ts) (kind_of (first z))
-  sees ts ss z are = sym (ap (λ l. look_at l (kind_of (first z))) (yields-words g ts ss are) ∙ look-tokens (words ts) z)
-
   mutual
     -- where trees are still to come, there is a move on their first kind, or on what follows them
     pub tree_moves : (t : Tree) (n : ℕ) → IsTree g t (Nonterminal n) → (symbols : List Symbol) (z : List ℕ) → Reaches g symbols (Some n) z → Moves symbols (look_at (yield t) (kind_of (first z)))
@@ -31,13 +26,12 @@ module _ (g : Grammar) where
     pub trees_move : (ts : Forest) (ss : List Symbol) → AreTrees g ts ss → (before : List Symbol) (p n : ℕ) → HasProduction g p n (before ++ ss)
         → (d : List Symbol) (z : List ℕ) → Reaches g d (Some n) z → Moves (d ++ before) (look_at (yields ts) (kind_of (first z)))
     trees_move Nil [] h before p n is_prod d z reach = (end_move (Some p), end_called g (Some p) (Some n) d before z reach (subst (HasProduction g p n) (append-nil before) is_prod))
-    trees_move Nil (s ∷ ss) h before p n is_prod d z reach = absurd h
-    trees_move (Cons t ts) [] h before p n is_prod d z reach = absurd h
     trees_move (Cons t ts) (Terminal a ∷ ss) h before p n is_prod d z reach =
         subst (λ u. Moves (d ++ before) (look_at (yield u ++ yields ts) (kind_of (first z)))) (sym (leaf_of g t a h.0)) (Shift, inside_called g (Some p) (Some n) d before a ss z reach is_prod)
     trees_move (Cons t ts) (Nonterminal m ∷ ss) h before p n is_prod d z reach =
-        moves_at (d ++ before) _ _ (ap (λ l. look_at (yield t) l) (sees ts ss z h.1) ∙ sym (look-append (yield t) (yields ts) (kind_of (first z))))
+        moves_at (d ++ before) _ _ (ap (λ l. look_at (yield t) l) (look-yields g ts ss z h.1) ∙ sym (look-append (yield t) (yields ts) (kind_of (first z))))
         (tree_moves t m h.0 (d ++ before) (words ts ++ z) (reach_next g d before m ts ss p n z is_prod h.1 reach))
+    trees_move ts ss h before p n is_prod d z reach = absurd h
 
   -- a node of trees that the machine is to read: where it comes to the node's left siblings, it has them on
   -- its stack, and could go on after the node's root with what follows the node
@@ -49,23 +43,15 @@ module _ (g : Grammar) where
     pub run : Run g (look_at (yields us ++ rest) None) stack (all_kinds lefts) (stack ++ lefts)
     pub goes_on : Moves (symbols ++ (Nonterminal root ∷ [])) (look_at rest None)
 
-  see_word : (w : List ℕ) → look_at (tokens w) None ≡ kind_of (first w)
-  see_word [] = refl
-  see_word (a ∷ w) = refl
-
   pub record Taken (stack lefts : List Tree) (p : ℕ) (us : Forest) (whole : List Kind) : Type 0 where
     pub rest : List Kind
     pub kinds : whole ≡ all_kinds lefts ++ (yields us ++ rest)
     pub can : CanTake stack lefts p us rest
 
-  moved_dot : (d before : List Symbol) (s : Symbol) (stack : List Tree) (t : Tree) → HaveRoots g stack (d ++ before) → IsTree g t s → HaveRoots g (stack ++ (t ∷ [])) (d ++ (before ++ (s ∷ [])))
-  moved_dot d before s stack t roots h = subst (HaveRoots g (stack ++ (t ∷ []))) (append_assoc d before (s ∷ [])) (roots-append g stack (t ∷ []) (d ++ before) (s ∷ []) roots (h, tt))
-
   -- among the trees of what stands after the dot of an item
   pub node_taken : {l lefts : List Tree} {t : Tree} → StandsIn l lefts t → (q : ℕ) (vs : Forest) → t ≡ Branch q vs → (ss : List Symbol) → HaveRoots g l ss
       → (before : List Symbol) (p n : ℕ) → HasProduction g p n (before ++ ss) → (d : List Symbol) (stack : List Tree) → HaveRoots g stack (d ++ before)
       → (z : List ℕ) → Reaches g d (Some n) z → Taken stack lefts q vs (all_kinds l ++ tokens z)
-  node_taken Top q vs e [] h before p n is_prod d stack roots z reach = absurd h
   node_taken Top q vs e (Terminal a ∷ ss) h before p n is_prod d stack roots z reach = absurd (subst (λ u. IsTree g u (Terminal a)) e h.0)
   node_taken (Top {t = t} {ts = l}) q vs e (Nonterminal m ∷ ss) h before p n is_prod d stack roots z reach =
       let are = roots-forest g l ss h.1 in
@@ -86,7 +72,6 @@ module _ (g : Grammar) where
               (subst (λ k. Moves k (look_at (yields (forest l)) (kind_of (first z)))) (sym (append_assoc d before (Nonterminal m ∷ []))) on);
         };
       }
-  node_taken (Below w) q vs e [] h before p n is_prod d stack roots z reach = absurd h
   node_taken (Below w) q vs e (Terminal a ∷ ss) h before p n is_prod d stack roots z reach = absurd h.0
   node_taken (Below {p = p'} {us = us} {ts = l} {lefts = lefts} w) q vs e (Nonterminal m ∷ ss) h before p n is_prod d stack roots z reach =
       let are = roots-forest g l ss h.1 in
@@ -95,14 +80,13 @@ module _ (g : Grammar) where
       (reach_next g d before m (forest l) ss p n z is_prod are reach) in
       let tail : tokens z' ≡ all_kinds l ++ tokens z = tokens-append (words (forest l)) z ∙ ap (λ k. k ++ tokens z) (sym (yields-words g (forest l) ss are) ∙ yields-forest l) in
       subst (Taken stack lefts q vs) (ap (λ k. k ++ tokens z') (kinds-trees us) ∙ ap (λ k. yields us ++ k) tail ∙ sym (append_assoc (yields us) (all_kinds l) (tokens z))) inner
-  node_taken (Past w) q vs e [] h before p n is_prod d stack roots z reach = absurd h
   node_taken (Past {u = u} {ts = l} {lefts = lefts} w) q vs e (s ∷ ss) h before p n is_prod d stack roots z reach =
       let are = roots-forest g l ss h.1 in
       let inner = node_taken w q vs e ss h.1 (before ++ (s ∷ [])) p n (subst (HasProduction g p n) (sym (append_assoc before (s ∷ []) ss)) is_prod) d
-      (stack ++ (u ∷ [])) (moved_dot d before s stack u roots h.0) z reach in
+      (stack ++ (u ∷ [])) (moved_dot g d before s stack u roots h.0) z reach in
       let c = inner.can in
       let joined = append_assoc stack (u ∷ []) lefts in
-      let head = head_run g u s (forest l) ss before p n d stack z h.0 are is_prod roots reach in
+      let head = head_run g u (tree_run g u) s (forest l) ss before p n d stack z h.0 are is_prod roots reach in
       let next : look_at (yields (forest l)) (kind_of (first z)) ≡ look_at (all_kinds lefts) (look_at (yields vs ++ inner.rest) None) =
       ap (λ k. look_at k (kind_of (first z))) (yields-forest l) ∙ ap (λ k. look_at (all_kinds l) k) (sym (see_word z)) ∙ sym (look-append (all_kinds l) (tokens z) None)
       ∙ ap (λ k. look_at k None) inner.kinds ∙ look-append (all_kinds lefts) (yields vs ++ inner.rest) None in
@@ -119,6 +103,7 @@ module _ (g : Grammar) where
           goes_on = c.goes_on;
         };
       }
+  node_taken w q vs e ss h before p n is_prod d stack roots z reach = absurd h
 
   in_one : {l lefts : List Tree} {t : Tree} → StandsIn l lefts t → (whole : Tree) → l ≡ whole ∷ [] → (q : ℕ) (vs : Forest) → t ≡ Branch q vs
       → IsTree g whole (Nonterminal g.start) → Taken [] lefts q vs (yield whole ++ [])

@@ -87,6 +87,10 @@ cell_at ts (b ∷ cs) h (suc i) c d l e =
 pub store_at : (cs : List Cell) → AreCells [] cs → (i : ℕ) (c d : Cell) → i < length cs → c ≡ get_or cs i d → IsAt (trees_from [] cs) i c
 store_at cs h i c d l e = let n : 0 + i ≡ i = omega arith in subst (λ k. IsAt (trees_from [] cs) k c) n (cell_at [] cs h i c d l e)
 
+-- the same, of a store and the cells that it is seen as
+pub seen_at : {cs seen : List Cell} → cs ≡ seen → AreCells [] cs → (i : ℕ) (c : Cell) → i < length seen → c ≡ get_or cs i c → IsAt (trees_from [] seen) i c
+seen_at {cs} view h i c l e = subst (λ s. IsAt (trees_from [] s) i c) view (store_at cs h i c c (rw view l) e)
+
 -- a child of a node stands before it
 pub below-get : (n : ℕ) (cs : List Child) (k : ℕ) → AreBelow n cs → IfSome (slice_get cs k) (IsBelow n)
 below-get n [] k h = tt

@@ -17,10 +17,8 @@ owed_none (suc n) (t ∷ ts) (suc m) = omega (arith, owed_none n ts m)
 -- one more mark costs the branches of its tree at most
 pub owed_set : (n : ℕ) (ts : List Stamped) (marks : List Bool) (i : ℕ) → i < n → owed n ts (set marks i true) ≤ owed n ts marks + branches (plain (get_or ts i (StampedLeaf Invalid)))
 owed_set zero ts marks i l = absurd (omega (arith, l))
-owed_set (suc n) [] marks i l = omega arith
-owed_set (suc n) (t ∷ ts) [] i l = omega arith
-owed_set (suc n) (t ∷ ts) (mark ∷ marks) zero l = omega arith
 owed_set (suc n) (t ∷ ts) (mark ∷ marks) (suc i) l = omega (arith, owed_set n ts marks i (omega (arith, l)))
+owed_set n ts marks i l = omega arith
 
 owed_all : (n : ℕ) (ts : List Stamped) (marks : List Bool) (cs : List Child) → AreBelow n cs → owed n ts (mark_all marks cs) ≤ owed n ts marks + all_branches (plain_trees (trees_of ts cs))
 owed_all n ts marks [] h = omega arith
@@ -31,13 +29,12 @@ owed_all n ts marks (Node id ∷ cs) h = omega (arith, owed_set n ts marks id.in
 owed_yes : (i : ℕ) (ts : List Stamped) (marks : List Bool) → i < length ts → get_or marks i false ≡ true
     → owed (suc i) ts marks + 1 ≡ owed i ts marks + branches (plain (get_or ts i (StampedLeaf Invalid)))
 owed_yes i [] marks l e = absurd (omega (arith, l))
-owed_yes i (t ∷ ts) [] l e = let f : ⊥ = cc e in absurd f
 owed_yes zero (t ∷ ts) (true ∷ marks) l e =
     let next : owed 1 (t ∷ ts) (true ∷ marks) ≡ branches (plain t) + count_by (λ mark. mark) marks = refl in
     let now : owed 0 (t ∷ ts) (true ∷ marks) ≡ 1 + count_by (λ mark. mark) marks = sum_by-cons (λ mark. cond mark 1 0) true marks in
     omega (arith, next, now)
-owed_yes zero (t ∷ ts) (false ∷ marks) l e = let f : ⊥ = cc e in absurd f
 owed_yes (suc i) (t ∷ ts) (mark ∷ marks) l e = omega (arith, owed_yes i ts marks (omega (arith, l)) e)
+owed_yes i ts marks l e = let f : ⊥ = cc e in absurd f
 
 pub owed_no : (i : ℕ) (ts : List Stamped) (marks : List Bool) → i < length ts → get_or marks i false ≡ false → owed i ts marks ≡ owed (suc i) ts marks
 owed_no i [] marks l e = absurd (omega (arith, l))

@@ -1,7 +1,6 @@
 -- Marks, ranks, and the trees of nodes that slide down.
-use Rattle.std.proofs.Common.{◌≡◌, ◌≢◌, ℕ, ◌+◌, ◌<◌, ◌≤◌, zero, suc, Bool, true, false, List, [], ◌∷◌, ◌++◌, length, map, take, drop, min, cond, count_by, get_or, set, refl, sym, ap, ◌∙◌, subst, arith, inl, inr}
-use Rattle.trees.proofs.Common.{drop-drop, drop-set-lt, get_or-set_other, get_or-set_same, get_or_read_under, length-set, take-set-le, take-take, take_more_set, count_by-le-length, count_by_more_no, count_by_more_yes, sum_by-take-le, cases_lt, SwappedAt, Invalid, branches_of, StampedBranch, StampedCons, StampedLeaf, plain_all, yields, NodeId, Child, Token, Node, Cell, all_trees, blank, branch_of, forest_in, most, tree, trees_from, AreBelow, IsBelow, IsCell, IsStore, nodes, unpack, mark_all, rank, renamed, AreMarked, AreRanks, IsClosed, IsClosedFrom, IsMarked}
-use Rattle.std.proofs.lemmas.List.{length-take}
+use Rattle.std.proofs.Common.{◌≡◌, ◌≢◌, ℕ, ◌+◌, ◌<◌, ◌≤◌, zero, suc, Bool, true, false, List, [], ◌∷◌, ◌++◌, length, map, take, drop, min, cond, count_by, get_or, set, refl, sym, ap, ◌∙◌, subst, arith, inl, inr, length-take}
+use Rattle.trees.proofs.Common.{drop-drop, drop-set-lt, get_or-set_other, get_or-set_same, get_or_read_under, length-set, take-set-le, take-take, take_more_set, count_by-le-length, count_by_more_no, count_by_more_yes, sum_by-take-le, cases_lt, SwappedAt, Invalid, branches_of, StampedBranch, StampedCons, StampedLeaf, plain_all, yields, NodeId, Child, Token, Node, Cell, all_trees, blank, branch_of, forest_in, most, tree, trees_from, AreBelow, IsBelow, IsCell, IsStore, nodes, mark_all, rank, renamed, AreMarked, AreRanks, IsClosed, IsClosedFrom, IsMarked}
 use Rattle.trees.proofs.Cells.{all_below-more, below-at, cell_made, cells-push, grown-new, grown-tree, store_at}
 
 first_of : {X : Type 0} (xs : List X) (k : ℕ) (d : X) → get_or (drop k xs) 0 d ≡ get_or xs k d
@@ -17,26 +16,23 @@ same_next xs ys k d e = sym (first_of xs k d) ∙ ap (λ l. get_or l 0 d) e ∙ 
 pub next_below : (n : ℕ) (xs ys : List Child) (k : ℕ) (d c : Child) → drop k xs ≡ drop k ys → AreBelow n ys → k < length ys → get_or xs k d ≡ c → IsBelow n c
 next_below n xs ys k d c e h l is = subst (IsBelow n) is (below-at n ys k (get_or xs k d) d h l (same_next xs ys k d e))
 
+-- a child that an item of a list below the count stands for is below it
+pub stands_below : {X : Type 0} (child : X → Child) (n : ℕ) (xs : List X) (k : ℕ) (d : X) → AreBelow n (map child xs) → k < length xs → IsBelow n (child (get_or xs k d))
+stands_below child n [] k d h l = absurd (omega (arith, l))
+stands_below child n (x ∷ xs) zero d h l = h.0
+stands_below child n (x ∷ xs) (suc k) d h l = stands_below child n xs k d h.1 (omega (arith, l))
+
 pub root_below : (n : ℕ) (ids : List NodeId) (i : ℕ) (none : NodeId) → AreBelow n (nodes ids) → i < length ids → (get_or ids i none).index < n
-root_below n [] i none h l = absurd (omega (arith, l))
-root_below n (id ∷ ids) zero none h l = h.0
-root_below n (id ∷ ids) (suc i) none h l = root_below n ids i none h.1 (omega (arith, l))
+root_below = stands_below (λ id. Node id)
 
 pub next-root_below : (n : ℕ) (xs ys : List NodeId) (k : ℕ) (d : NodeId) → drop k xs ≡ drop k ys → AreBelow n (nodes ys) → k < length ys → (get_or xs k d).index < n
 next-root_below n xs ys k d e h l = omega (arith, ap (λ id. id.index) (same_next xs ys k d e), root_below n ys k d h l)
 
-pub unpacked_below : (n : ℕ) (numbers : List ℕ) (k d : ℕ) → AreBelow n (map unpack numbers) → k < length numbers → IsBelow n (unpack (get_or numbers k d))
-unpacked_below n [] k d h l = absurd (omega (arith, l))
-unpacked_below n (x ∷ xs) zero d h l = h.0
-unpacked_below n (x ∷ xs) (suc k) d h l = unpacked_below n xs k d h.1 (omega (arith, l))
-
 -- a mark that is set stays set
 set_kept : (marks : List Bool) (i j : ℕ) → get_or marks j false ≡ true → get_or (set marks i true) j false ≡ true
-set_kept [] i j e = e
-set_kept (m ∷ marks) zero zero e = refl
-set_kept (m ∷ marks) zero (suc j) e = e
-set_kept (m ∷ marks) (suc i) zero e = e
 set_kept (m ∷ marks) (suc i) (suc j) e = set_kept marks i j e
+set_kept (m ∷ marks) zero zero e = refl
+set_kept marks i j e = e
 
 mark-kept_at : (marks : List Bool) (cs : List Child) (j : ℕ) → get_or marks j false ≡ true → get_or (mark_all marks cs) j false ≡ true
 mark-kept_at marks [] j e = e
@@ -98,9 +94,6 @@ roots-marked marks (x ∷ ids) id l h = (set_kept marks id.index x.index h.0, ro
 pub rank_le : (marks : List Bool) (i : ℕ) → rank marks i ≤ i
 rank_le marks i = omega (arith, count_by-le-length (λ mark. mark) (take i marks), length-take i marks)
 
-rank_next : (marks : List Bool) (i : ℕ) → i < length marks → get_or marks i false ≡ true → rank marks (i + 1) ≡ rank marks i + 1
-rank_next marks i l e = count_by_more_yes (λ mark. mark) marks i false l e
-
 pub rank_same : (marks : List Bool) (i : ℕ) → i < length marks → get_or marks i false ≡ false → rank marks (i + 1) ≡ rank marks i
 rank_same marks i l e = count_by_more_no (λ mark. mark) marks i false l e
 
@@ -111,7 +104,7 @@ set_within (m ∷ marks) zero e = omega arith
 set_within (m ∷ marks) (suc i) e = omega (arith, set_within marks i e)
 
 pub rank_more : (marks : List Bool) (i : ℕ) → get_or marks i false ≡ true → rank marks (i + 1) ≡ rank marks i + 1
-rank_more marks i e = rank_next marks i (set_within marks i e) e
+rank_more marks i e = count_by_more_yes (λ mark. mark) marks i false (set_within marks i e) e
 
 -- a marked node has a lower rank than those after it
 pub rank_lt : (marks : List Bool) (i j : ℕ) → get_or marks i false ≡ true → i < j → rank marks i < rank marks j

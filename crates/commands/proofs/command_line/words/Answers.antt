@@ -1,6 +1,5 @@
-use Rattle.std.proofs.lemmas.Grind.{common_steps}
 use Rattle.std.proofs.Common.{◌≡◌, ◌∙◌, [], ◌∷◌, ap, List, map, codes, string_bytes, String, arith}
-use Rattle.commands.proofs.Common.{All, IsUtf8, take_all, All-cons, All-nil, IfOk-weaker, IsUtf8-string_bytes}
+use Rattle.commands.proofs.Common.{All, IsUtf8, take_all, All-cons, All-nil, IfOk-weaker, IsUtf8-string_bytes, common_steps}
 use Rattle.commands.proofs.command_line.words.Goals as goal
 
 texts : {Z : Type 0} (strings : List (String Z)) → All IsUtf8 (map string_bytes strings)

@@ -1,7 +1,5 @@
 use Rattle.std.proofs.Common.{sym, ap, ◌∙◌, encode_utf8_all}
-use Rattle.std.proofs.lemmas.Str.{encodes-chars}
-use Rattle.definitions.specs.declared.Symbol.{Symbol}
-use Rattle.commands.specs.Conflicts.{name_bytes}
+use Rattle.commands.proofs.Common.{encodes-chars, Symbol, name_bytes}
 use Rattle.commands.proofs.conflicts.name_of.Goals as goal
 
 pub returns-in-Rule : goal.returns-in-Rule

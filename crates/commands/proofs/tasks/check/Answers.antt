@@ -1,8 +1,5 @@
 use Rattle.std.proofs.Common.{◌≡◌, ◌++◌, ◌∷◌, [], List, ℕ, map, flat_map, string_bytes, sym, ap, subst, ◌∙◌, append_assoc, codes}
-use Rattle.std.specs.Str.{chars}
-use Rattle.grammar.specs.Grammars.{FileGrammar}
-use Rattle.grammar.specs.Notes.{AreNotes, symbol_name}
-use Rattle.commands.specs.Reporting.{note_line, report}
+use Rattle.commands.proofs.Common.{chars, FileGrammar, AreNotes, symbol_name, note_line, report}
 use Rattle.commands.proofs.tasks.check.Goals as goal
 
 pub loop-name-init : goal.loop-name-init

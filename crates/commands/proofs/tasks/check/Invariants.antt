@@ -1,7 +1,5 @@
 use Rattle.std.proofs.Common.{◌≡◌, ◌++◌, List, map, string_bytes}
-use Rattle.definitions.specs.declared.Symbol.{Symbol}
-use Rattle.grammar.specs.Notes.{AreNotes, symbol_name}
-use Rattle.commands.specs.Reporting.{report}
+use Rattle.commands.proofs.Common.{Symbol, AreNotes, symbol_name, report}
 use Rattle.commands.proofs.tasks.check.Given as goal
 
 -- what is printed so far, and the lines of the names that are left

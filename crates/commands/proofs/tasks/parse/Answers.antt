@@ -1,11 +1,5 @@
 use Rattle.std.proofs.Common.{◌≡◌, ℕ, List, true, inr, subst, ap, ◌∙◌, rules}
-use Rattle.std.specs.Str.{chars}
-use Rattle.std.proofs.lemmas.Result.{IfOk-weaker}
-use Rattle.definitions.specs.declared.Unit.{Unit as Encoding}
-use Rattle.definitions.specs.declared.Unit.TheVariants.{Utf16}
-use Rattle.docs.specs.declared.doc.Outcome.{Outcome}
-use Rattle.docs.specs.Outcomes.{IsOutcome}
-use Rattle.docs.specs.Texts.{OpenDocument, fits}
+use Rattle.commands.proofs.Common.{chars, IfOk-weaker, Encoding, Utf16, Outcome, IsOutcome, OpenDocument, fits}
 use Rattle.commands.proofs.tasks.parse.Goals as goal
 
 pub returns-in-Ok-open : goal.returns-in-Ok-open

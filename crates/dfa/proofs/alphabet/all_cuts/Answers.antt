@@ -1,6 +1,5 @@
-use Rattle.std.proofs.lemmas.Grind.{common_steps}
 use Rattle.std.proofs.Common.{◌+◌, drop, ap, arith}
-use Rattle.dfa.proofs.Common.{all_cuts, cuts}
+use Rattle.dfa.proofs.Common.{all_cuts, cuts, common_steps}
 use Rattle.dfa.proofs.JoinedLists.{one_more}
 use Rattle.dfa.proofs.Loops.{at_element}
 use Rattle.dfa.proofs.alphabet.all_cuts.Goals as goal

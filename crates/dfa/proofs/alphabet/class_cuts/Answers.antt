@@ -1,6 +1,5 @@
-use Rattle.std.proofs.lemmas.Grind.{common_steps}
 use Rattle.std.proofs.Common.{rules, ◌≡◌, ◌+◌, ◌++◌, drop, slice_index_or, arith}
-use Rattle.dfa.proofs.Common.{at_drop_more, Interval, cut, class_cuts}
+use Rattle.dfa.proofs.Common.{at_drop_more, Interval, cut, class_cuts, common_steps}
 use Rattle.dfa.proofs.JoinedLists.{one_more}
 use Rattle.dfa.proofs.alphabet.class_cuts.Goals as goal
 

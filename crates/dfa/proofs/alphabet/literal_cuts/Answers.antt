@@ -1,6 +1,5 @@
-use Rattle.std.proofs.lemmas.Grind.{common_steps}
 use Rattle.std.proofs.Common.{◌+◌, ◌∷◌, drop, ap, sym, ◌∙◌, arith}
-use Rattle.dfa.proofs.Common.{at_drop_more, cut, literal_cuts}
+use Rattle.dfa.proofs.Common.{at_drop_more, cut, literal_cuts, common_steps}
 use Rattle.dfa.proofs.JoinedLists.{one_more}
 use Rattle.dfa.proofs.alphabet.literal_cuts.Goals as goal
 

@@ -1,6 +1,5 @@
-use Rattle.std.proofs.lemmas.Grind.{common_steps}
 use Rattle.std.proofs.Common.{◌+◌, ◌++◌, ◌∷◌, drop, sym, ap, ◌∙◌, subst, arith}
-use Rattle.dfa.proofs.Common.{at_drop_more, IsWellMade, all_positions, unmarked, positions}
+use Rattle.dfa.proofs.Common.{at_drop_more, IsWellMade, all_positions, unmarked, positions, common_steps}
 use Rattle.dfa.proofs.JoinedLists.{one_more, unmarked-add, all_made}
 use Rattle.dfa.proofs.build.blank_marks.Goals as goal
 

@@ -1,6 +1,5 @@
-use Rattle.std.proofs.lemmas.Grind.{common_steps}
 use Rattle.std.proofs.Common.{arith}
-use Rattle.dfa.proofs.Common.{members}
+use Rattle.dfa.proofs.Common.{members, common_steps}
 use Rattle.dfa.proofs.Numbered.{placed, numbered_key, placed_bound}
 use Rattle.dfa.proofs.states.number.Goals as goal
 

@@ -1,6 +1,5 @@
-use Rattle.std.proofs.lemmas.Grind.{common_steps}
 use Rattle.std.proofs.Common.{◌≡◌, length, arith, ap, ◌∙◌, min}
-use Rattle.frames.proofs.Common.{length-take}
+use Rattle.frames.proofs.Common.{length-take, common_steps}
 use Rattle.frames.proofs.header.start_of.Goals as goal
 
 pub returns-in-Ok-clause-within : goal.returns-in-Ok-clause-within

@@ -1,6 +1,5 @@
-use Rattle.std.proofs.lemmas.Grind.{common_steps}
 use Rattle.std.proofs.Common.{◌∙◌, ap, arith, take_all, map}
-use Rattle.grammar.proofs.Common.{is_fold, texts, lines_view}
+use Rattle.grammar.proofs.Common.{is_fold, texts, lines_view, common_steps}
 use Rattle.grammar.proofs.numbers.folds.Goals as goal
 
 pub returns : goal.returns

@@ -1,6 +1,5 @@
-use Rattle.std.proofs.lemmas.Grind.{common_steps}
 use Rattle.std.proofs.Common.{◌∙◌, ◌++◌, [], ap, sym, take, map, arith}
-use Rattle.grammar.proofs.Common.{cons_option, productions, production_of, lines_view, productions_more}
+use Rattle.grammar.proofs.Common.{cons_option, productions, production_of, lines_view, productions_more, common_steps}
 use Rattle.grammar.proofs.numbers.productions.Goals as goal
 
 pub loop-statement-preserved : goal.loop-statement-preserved

@@ -1,6 +1,5 @@
-use Rattle.std.proofs.lemmas.Grind.{common_steps}
 use Rattle.std.proofs.Common.{◌<◌, ◌∙◌, Bool, true, List, length, subst, arith}
-use Rattle.grammar.proofs.Common.{length-set, IsClosed, IsNext}
+use Rattle.grammar.proofs.Common.{length-set, IsClosed, IsNext, common_steps}
 use Rattle.grammar.proofs.NonterminalMarks.{complete, sound_more, next_within}
 use Rattle.grammar.proofs.productive.productive.Goals as goal
 

@@ -1,6 +1,5 @@
-use Rattle.std.proofs.lemmas.Grind.{common_steps}
 use Rattle.std.proofs.Common.{refl, sym, take, drop, ◌+◌, arith}
-use Rattle.grammar.proofs.Common.{lines_view, statement_of, said_split}
+use Rattle.grammar.proofs.Common.{lines_view, statement_of, said_split, common_steps}
 use Rattle.grammar.proofs.unproductive.first_line_of.Goals as goal
 
 pub returns-then-is_production_of : goal.returns-then-is_production_of

@@ -1,6 +1,6 @@
 use Rattle.std.proofs.Common.{◌≡◌, List, [], ◌∷◌, ◌++◌, length, sym, ap, ◌∙◌, subst, arith}
-use Rattle.parser.proofs.Common.{append-nil, Kind, all_kinds, yield, plain, Node, Token, AreBelow, tree, all_below-more, plain_of}
-use Rattle.parser.proofs.Inputs.{no_kinds, none_counted}
+use Rattle.parser.proofs.Common.{append-nil, Kind, all_kinds, yield, plain, Node, Token, AreBelow, tree, all_below-more, plain_of, nil_from_length}
+use Rattle.parser.proofs.Inputs.{none_counted}
 use Rattle.parser.proofs.SecondKind.{into_node, past_empty}
 use Rattle.parser.proofs.input.first_kind.Goals.{then-tokens-gt0, else-tokens-gt0}
 use Rattle.parser.proofs.input.first_kind.Goals as goal
@@ -41,7 +41,7 @@ edge-preserved c =
           )
       | else-tokens-gt0 w ↦
           let zero_tokens : c.tokens.result ≡ 0 = omega (arith, w.if-tokens-gt0.false) in
-          let none = no_kinds (yield (plain (tree cells (Node id)))) (none_counted (length (yield (plain (tree cells (Node id))))) (sym c.tokens.ensures.is ∙ zero_tokens)) in
+          let none = nil_from_length (yield (plain (tree cells (Node id)))) (none_counted (length (yield (plain (tree cells (Node id))))) (sym c.tokens.ensures.is ∙ zero_tokens)) in
           subst (λ l. AreBelow (length cells) l × ((more : List Kind) × (all ≡ all_kinds (plain_of cells l) ++ more))) (sym w.trees-is)
           (below.1, (more, past_empty cells (Node id) rest all more none kinds))
     ]

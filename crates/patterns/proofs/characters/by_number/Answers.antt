@@ -1,6 +1,5 @@
-use Rattle.std.proofs.lemmas.Grind.{common_steps}
 use Rattle.std.proofs.Common.{ℕ, ◌<◌, ◌≤◌, ◌^◌, arith, lit<}
-use Rattle.patterns.proofs.Common.{pow-le-pow_right}
+use Rattle.patterns.proofs.Common.{pow-le-pow_right, common_steps}
 use Rattle.patterns.proofs.characters.by_number.Goals as goal
 
 below : (k v : ℕ) → k ≤ 5 → v < 16 ^ k → v < 1048576

@@ -1,5 +1,4 @@
-use Rattle.std.proofs.Common.{ap, subst, ◌∙◌}
-use Rattle.std.specs.String.{string_bytes}
+use Rattle.std.proofs.Common.{ap, subst, ◌∙◌, string_bytes}
 use Rattle.replies.proofs.Common.{on_ok_weaker, Logs, text}
 use Rattle.replies.proofs.results.send_row.Goals as goal
 

@@ -13,8 +13,7 @@ returns c =
           two_valid = k.one_valid;
           one_move = k.two_move;
           two_move = k.one_move;
-          one_calls =
-              k.two_calls;
+          one_calls = k.two_calls;
           two_calls = k.one_calls;
           differ = λ e. k.differ (sym e);
         };

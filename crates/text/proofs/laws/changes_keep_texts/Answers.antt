@@ -1,5 +1,4 @@
-use Rattle.text.proofs.Common.{IsText-edit, changed}
-use Rattle.definitions.specs.Text.{span}
+use Rattle.text.proofs.Common.{IsText-edit, changed, span}
 use Rattle.text.proofs.laws.changes_keep_texts.Goals as goal
 
 pub returns : goal.returns

@@ -1,6 +1,5 @@
-use Rattle.std.proofs.lemmas.Grind.{common_steps}
 use Rattle.std.proofs.Common.{arith, sym, subst, ◌∙◌, ◌≡◌, ◌-◌, ap, ℕ, List, drop, length, length-drop, take, slice_index_or, Some}
-use Rattle.dfa.proofs.Common.{take_all, IsState, IsAsciiRow, follower}
+use Rattle.dfa.proofs.Common.{take_all, IsState, IsAsciiRow, follower, common_steps}
 use Rattle.dfa.proofs.Numbers.{row_follower, row_wide}
 use Rattle.dfa.proofs.automaton.Automaton.row.Goals as goal
 

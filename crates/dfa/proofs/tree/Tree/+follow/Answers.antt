@@ -1,6 +1,5 @@
 use Rattle.std.proofs.Common.{arith}
-use Rattle.std.proofs.lemmas.Grind.{common_steps}
-use Rattle.dfa.proofs.Common.{marks_of}
+use Rattle.dfa.proofs.Common.{marks_of, common_steps}
 use Rattle.dfa.proofs.Trees.{none_added}
 use Rattle.dfa.proofs.tree.Tree.+follow.Goals as goal
 

@@ -1,6 +1,5 @@
-use Rattle.std.proofs.lemmas.Grind.{common_steps}
 use Rattle.std.proofs.Common.{arith, inr, ap, subst, ◌∙◌, ◌∷◌, length}
-use Rattle.lexer.proofs.Common.{IsWalk}
+use Rattle.lexer.proofs.Common.{IsWalk, common_steps}
 use Rattle.lexer.proofs.Totals.{few}
 use Rattle.lexer.proofs.Walks.{walk_on, passed_on, at_end}
 use Rattle.lexer.proofs.walk.Walk.go_to.Goals as goal

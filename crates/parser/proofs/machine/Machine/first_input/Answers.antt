@@ -1,7 +1,7 @@
 use Rattle.std.proofs.Common.{◌≡◌, ◌<◌, ◌∷◌, ◌++◌, [], ◌+◌, drop, length, refl, sym, ap, ◌∙◌, subst, arith, rules}
-use Rattle.parser.proofs.Common.{yield, plain, plain_all, Node, Token, AreBelow, all_trees, tree, all_below-more, CanReuse, Tries, plain_of, input_of, IsInput, BeginsWithNoNode, ComeFrom, common_steps}
+use Rattle.parser.proofs.Common.{yield, plain, plain_all, Node, Token, AreBelow, all_trees, tree, all_below-more, CanReuse, Tries, plain_of, input_of, IsInput, BeginsWithNoNode, ComeFrom, common_steps, nil_from_length}
 use Rattle.parser.proofs.LeftEdge.{Step, branch_root, opened, dropped}
-use Rattle.parser.proofs.Inputs.{IsOpening, taken, no_kinds, none_counted, kids_kinds, opening_begins, opening_on}
+use Rattle.parser.proofs.Inputs.{IsOpening, taken, none_counted, kids_kinds, opening_begins, opening_on}
 use Rattle.parser.proofs.Reductions.{below-append}
 use Rattle.parser.proofs.Reusing.{look_first}
 use Rattle.parser.proofs.WhereBranchesComeFrom.{come_all, come_after, come_on, opened_came}
@@ -95,7 +95,7 @@ edge-preserved g c =
           (subst (λ l. ComeFrom (all_trees cells l) 0 (all_trees cells rest)) (sym old)
           (subst (λ n. ComeFrom (all_trees cells (Node id ∷ rest)) n (all_trees cells rest)) empty (come_after (tree cells (Node id)) (all_trees cells rest))));
       same = c.edge.invariant.same;
-      opening = opening_on cells c.args.input.now c.edge.input rest [] (Node id) c.requires.full c.edge.invariant.opening old (sym (no_kinds (yield (plain (tree cells (Node id)))) empty));
+      opening = opening_on cells c.args.input.now c.edge.input rest [] (Node id) c.requires.full c.edge.invariant.opening old (sym (nil_from_length (yield (plain (tree cells (Node id)))) empty));
     }
 
 pub returns-in-Token-clause-offer : goal.returns-in-Token-clause-offer
@@ -114,8 +114,7 @@ edge-init g c = record {
   input = c.requires.input;
   offers = λ f d. d;
   came = come_all (all_trees c.args.store.now c.args.input.now);
-  same =
-      refl;
+  same = refl;
   opening = opening_begins c.args.store.now c.args.input.now;
 }
 

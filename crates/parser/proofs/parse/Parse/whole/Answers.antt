@@ -1,6 +1,5 @@
-use Rattle.std.proofs.lemmas.Grind.{common_steps}
 use Rattle.std.proofs.Common.{[], ◌+◌, arith, drop, length, subst, sym, rules}
-use Rattle.parser.proofs.Common.{all_trees, input_of, IsInput, IsMadeByRun, AreOlder}
+use Rattle.parser.proofs.Common.{all_trees, input_of, IsInput, IsMadeByRun, AreOlder, common_steps}
 use Rattle.parser.proofs.WholeRun.{plain_count, plain_stamps}
 use Rattle.parser.proofs.Running.{no_input}
 use Rattle.parser.proofs.Stamping.{none_in_nothing}

@@ -1,6 +1,5 @@
-use Rattle.std.proofs.lemmas.Grind.{common_steps}
 use Rattle.std.proofs.Common.{ℕ, [], ◌∷◌, refl, sym, ◌∙◌, ap, subst, arith}
-use Rattle.patterns.proofs.Common.{Plain, InClass, Items, fault_from, IsClassChar, writing, place}
+use Rattle.patterns.proofs.Common.{Plain, InClass, Items, fault_from, IsClassChar, writing, place, common_steps}
 use Rattle.patterns.proofs.Literals.{no_item, no_last, first_step}
 use Rattle.patterns.proofs.classes.Reader.item.Goals as goal
 

@@ -1,5 +1,5 @@
 use Rattle.std.proofs.Common.{◌≡◌, ◌<◌, [], Some, None, length, slice_index_or, sym, ◌∙◌, subst, arith}
-use Rattle.tables.proofs.Common.{get_or_default, seen}
+use Rattle.tables.proofs.Common.{get_or_default}
 use Rattle.tables.proofs.RowsOfPrefix.{right}
 use Rattle.tables.proofs.Expecting.{all_expected}
 use Rattle.tables.proofs.tables.Tables.expects.Goals as goal
@@ -16,9 +16,8 @@ expected-requires c =
 pub returns : goal.returns
 returns c =
     let inside = c.self.inside in
-    let t = seen inside.productions.grammar inside.gotos.items inside.moves.items in
     let s = c.args.state in
     rw (← c.self.view_is) (λ x stack prefix h after roots.
-    let is = right inside.productions.nonterminals t c.self.invariant prefix s h in
-    let row : c.index.result.now ≡ slice_index_or t.moves s [] = c.index.ensures ∙ get_or_default t.moves s c.index.result.now [] h.below in
-    rw (c.expected.ensures, row) (all_expected t.grammar c.self.invariant.accepted x stack prefix after roots (slice_index_or t.moves s []) (λ a. is.moves (Some a)) (is.moves None)))
+    let is = right _ _ c.self.invariant prefix s h in
+    let row : c.index.result.now ≡ slice_index_or inside.moves.items s [] = c.index.ensures ∙ get_or_default inside.moves.items s c.index.result.now [] h.below in
+    rw (c.expected.ensures, row) (all_expected _ c.self.invariant.accepted x stack prefix after roots (slice_index_or inside.moves.items s []) (λ a. is.moves (Some a)) (is.moves None)))

@@ -1,6 +1,5 @@
-use Rattle.std.proofs.Common.{ap, sym, ◌∙◌, ◌≡◌, ◌++◌, List, ℕ, string_bytes, encode_utf8_all}
+use Rattle.std.proofs.Common.{ap, sym, ◌∙◌, ◌≡◌, ◌++◌, List, ℕ, string_bytes, encode_utf8_all, append_assoc}
 use Rattle.text.proofs.Common.{text_in, encodes-append, encodes-chars}
-use Rattle.std.proofs.lemmas.List.{append_assoc}
 use Rattle.text.proofs.document.Text.to_string.Goals as goal
 
 pub loop-piece-preserved : goal.loop-piece-preserved

@@ -1,13 +1,12 @@
-use Rattle.std.proofs.Common.{[], ap, sym, ◌∙◌, subst, arith}
+use Rattle.std.proofs.Common.{[], ap, sym, ◌∙◌, arith}
 use Rattle.trees.proofs.Common.{StampedBranch, trees_from, forest_of, common_steps}
-use Rattle.trees.proofs.Cells.{store_at, IsAt}
+use Rattle.trees.proofs.Cells.{seen_at}
 use Rattle.trees.proofs.store.Store.born.Goals as goal
 
 pub returns-clause-tree : goal.returns-clause-tree
 returns-clause-tree c =
     let cell = c.index.result.now in
-    let at = subst (λ l. IsAt (trees_from [] l) c.args.id.index cell) c.self.view_is
-    (store_at c.self.inside.nodes.items c.self.invariant c.args.id.index cell cell (rw c.self.view_is c.requires) c.index.ensures) in
+    let at = seen_at c.self.view_is c.self.invariant c.args.id.index cell c.requires c.index.ensures in
     let below = forest_of (trees_from [] c.args.self.now) cell.children in
     (cell.production, below, at.is ∙ ap (λ b. StampedBranch cell.production b below) (sym c.label.ensures.born))
 
