@@ -5,8 +5,8 @@ as it was; and a server that was killed is told of.
 """
 
 import os
-import signal
 
+import processes
 import screens
 from drawn import MENDED, walk
 from surroundings import EMACS_START, placed, surroundings
@@ -21,21 +21,13 @@ AMBIGUOUS, FAULTY, OTHER = "Sum = Sum PLUS Sum", "Sum = Sum PLUS None", "Sum = S
 NUMBER, TOKEN = 1, 2
 
 
-def started_by(process):
-    """The numbers of the processes that this one has started, and that these have started."""
-    with open(f"/proc/{process}/task/{process}/children", encoding="ascii") as file:
-        for child in file.read().split():
-            yield child
-            yield from started_by(child)
-
-
 def kill_server(screen):
     """Kills the server of the text's language."""
-    for process in list(started_by(screen.tmux("display-message", "-p", "#{pane_pid}").strip())):
+    for process in list(processes.descendants(int(screen.tmux("display-message", "-p", "#{pane_pid}")))):
         with open(f"/proc/{process}/cmdline", "rb") as file:
             words = file.read().decode().split("\0")
         if "serve" in words and any(word.endswith("added.lr") for word in words):
-            os.kill(int(process), signal.SIGKILL)
+            processes.kill(process)
 
 
 def coloured(screen, text, colour):

@@ -7,6 +7,7 @@ import subprocess
 import threading
 import time
 
+import processes
 from serving import PATIENCE, TOP, framed, received
 
 # LRLS_IDE is another program to test in place of the repository's.
@@ -120,10 +121,10 @@ class Client:
 
         return self.awaits(is_it)["params"]["diagnostics"]
 
-    def cores(self):
-        """The processes that the server has started."""
-        with open(f"/proc/{self.process.pid}/task/{self.process.pid}/children", encoding="ascii") as file:
-            return [int(word) for word in file.read().split()]
+    def kill_core(self):
+        """Kills the core, perhaps in the midst of its work. Answers whether there was one."""
+        killed = [processes.kill(child) for child in processes.children(self.process.pid)]
+        return any(killed)
 
     def leave(self):
         """Ends the server by `shutdown` and `exit`. Answers its status."""

@@ -3,7 +3,6 @@ those of a fresh start."""
 
 import os
 import random
-import signal
 
 from ide_client import Client, change, outlined, with_edits
 from serving import TOP, Session
@@ -137,12 +136,6 @@ class Trial:
         self.colours = answer["resultId"], data
         return data
 
-    def kill(self):
-        """Kills the core, perhaps in the midst of its work."""
-        for process in self.client.cores():
-            os.kill(process, signal.SIGKILL)
-            self.kills += 1
-
     def run(self, edits, kills):
         self.client.open(URI, self.edited.text)
         for _ in range(SINGLE // len(LANGUAGES)):
@@ -157,7 +150,7 @@ class Trial:
                     self.take_back()
                 self.look()
             if number % (edits // kills) == self.choice.randrange(edits // kills):
-                self.kill()
+                self.kills += self.client.kill_core()
         self.look()
         told = [it for it in self.client.notes if it.get("method") == "window/showMessage"]
         self.cases.check(f"{self.language}: each end of the core is told", True, 0 < len(told) <= self.kills)
