@@ -1,4 +1,6 @@
 -- What the proofs of this crate cite of definitions, of types and of other crates, passed on from one place. Declares nothing.
+pub use Rattle.std.proofs.Common.{◌++◌, ◌==◌, ◌∙◌, ◌∷◌, ◌≡◌, ◌⊎◌, Bool, Err, IfOk, IsOkAnd, List, None, Ok, Option, Result, Some, String, [], ap, append_assoc, ap₂, arith, codes, drop, encode_utf8_all, false, flat_map, inl, inr, is_some, map, option_map, refl, rules, string_bytes, subst, sym, true, true≢false, ℕ}
+unfoldable pub use Rattle.std.specs.Char.{encode_utf8}
 pub use Rattle.std.specs.Prelude.{slice_get}
 pub use Rattle.std.specs.List.{All, fold}
 pub use Rattle.std.specs.Str.{IsUtf8, bytes_eq, chars}
@@ -33,7 +35,7 @@ pub use Rattle.commands.specs.declared.asked.Words.{Words}
 pub use Rattle.commands.specs.declared.asked.Words.TheVariants.{Check, Parse, Serve}
 pub use Rattle.std.proofs.lemmas.Grind.{common_steps}
 pub use Rattle.definitions.specs.declared.Symbol.{Symbol}
-pub use Rattle.commands.specs.Conflicts.{name_bytes}
+pub use Rattle.commands.specs.Conflicts.{name_bytes, names_with_spaces}
 pub use Rattle.grammar.specs.Grammars.{FileGrammar}
 pub use Rattle.grammar.specs.Notes.{AreNotes, symbol_name}
 pub use Rattle.commands.specs.Reporting.{note_line, report}

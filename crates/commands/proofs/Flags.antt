@@ -1,7 +1,5 @@
 -- What clap makes of a word: each is `--`, a flag or a path, and every flag is refused.
-use Rattle.std.proofs.Common.{◌==◌, ◌≡◌, ◌∙◌, ◌⊎◌, inl, inr, ℕ, Bool, true, false, refl, sym, ap, subst, List, [], ◌∷◌, drop, Option, Some, None, codes}
-use Rattle.commands.proofs.Common.{cases_Bool, IsUtf8, bytes_eq, chars, encodes, chars_past_char, encodes-chars, eqb-true, bytes_eq-Decides, slice_get, long_of, name_and_value, short_of, Kinds, or_else, Held, Row, Rule, Text, arg_by_long, arg_by_short, reacted, filled, help_rule, flag_word_fault, flags_fault, long_fault, react_fault, short_fault, settle_fault, is_flag}
-use Rattle.std.specs.Char.{encode_utf8}
+use Rattle.commands.proofs.Common.{◌==◌, ◌≡◌, ◌∙◌, ◌⊎◌, inl, inr, ℕ, Bool, true, false, refl, sym, ap, subst, List, [], ◌∷◌, drop, Option, Some, None, codes, cases_Bool, IsUtf8, bytes_eq, chars, encodes, chars_past_char, encodes-chars, eqb-true, bytes_eq-Decides, slice_get, long_of, name_and_value, short_of, Kinds, or_else, Held, Row, Rule, Text, arg_by_long, arg_by_short, reacted, filled, help_rule, flag_word_fault, flags_fault, long_fault, react_fault, short_fault, settle_fault, is_flag, encode_utf8}
 
 pub no_first : (a b : Kinds) → or_else a b ≡ [] → a ≡ []
 no_first [] b e = refl
@@ -73,10 +71,7 @@ long_kind [] e = cc
 long_kind (x ∷ r) e = (name_and_value (x ∷ r), refl)
 
 kind_at : (c d : ℕ) (r : Text) → IsUtf8 (c ∷ d ∷ r) → bytes_eq (c ∷ d ∷ r) (codes "--") ≡ false → Kind (c ∷ d ∷ r)
-kind_at c d r utf8 apart = elim (cases_Bool (c == 45)) [
-  | inl e ↦ hyphen (eqb-true c 45 e)
-  | inr e ↦ inr (inr (e, (apart, rw e refl, rw e refl)))
-]
+kind_at c d r utf8 apart = elim (cases_Bool (c == 45)) [ inl e ↦ hyphen (eqb-true c 45 e) | inr e ↦ inr (inr (e, (apart, rw e refl, rw e refl))) ]
   where
     second : IsUtf8 (45 ∷ d ∷ r) → bytes_eq (45 ∷ d ∷ r) (codes "--") ≡ false → Kind (45 ∷ d ∷ r)
     second u a = elim (cases_Bool (d == 45)) [
@@ -90,14 +85,8 @@ kind_at c d r utf8 apart = elim (cases_Bool (c == 45)) [
 
 other_kind : (word : Text) → IsUtf8 word → bytes_eq word (codes "--") ≡ false → Kind word
 other_kind [] utf8 apart = inr (inr (refl, (apart, refl, refl)))
-other_kind (c ∷ []) utf8 apart = elim (cases_Bool (c == 45)) [
-  | inl e ↦ inr (inr (refl, (apart, rw e refl, rw e refl)))
-  | inr e ↦ inr (inr (refl, (apart, rw e refl, rw e refl)))
-]
+other_kind (c ∷ []) utf8 apart = elim (cases_Bool (c == 45)) [ inl e ↦ inr (inr (refl, (apart, rw e refl, rw e refl))) | inr e ↦ inr (inr (refl, (apart, rw e refl, rw e refl))) ]
 other_kind (c ∷ d ∷ r) utf8 apart = kind_at c d r utf8 apart
 
 pub kind_of : (word : Text) → IsUtf8 word → Kind word
-kind_of word utf8 = elim (cases_Bool (bytes_eq word (codes "--"))) [
-  | inl e ↦ inl ((bytes_eq-Decides word (codes "--")).0 e)
-  | inr e ↦ other_kind word utf8 e
-]
+kind_of word utf8 = elim (cases_Bool (bytes_eq word (codes "--"))) [ inl e ↦ inl ((bytes_eq-Decides word (codes "--")).0 e) | inr e ↦ other_kind word utf8 e ]

@@ -1,5 +1,6 @@
 -- What the proofs of this crate cite of definitions, of types and of other crates, passed on from one place. Declares nothing.
-pub use Rattle.std.specs.Prelude.{Bool, Contains, List, None, Option, Some, Vec, [], codes, count_by, false, length, min, nat_le, nat_lt, not, replicate, slice_index, slice_index_or, suc, take, true, zero, ℕ, ◌&&◌, ◌+◌, ◌-◌, ◌<◌, ◌==◌, ◌||◌, ◌∷◌, ◌≡◌, ◌≢◌, ◌≤◌, ◌⊎◌}
+pub use Rattle.std.proofs.Common.{◌++◌, ◌↔◌, ◌∙◌, IsSomeAnd, IsTrue, ap, arith, cond, drop, encode_utf8_all, inl, inr, length-append, length-drop, map, nat_eq, refl, slice_get, subst, sum_by, sym}
+pub use Rattle.std.specs.Prelude.{◌&&◌, ◌+◌, ◌-◌, ◌<◌, ◌==◌, ◌||◌, ◌∷◌, ◌≡◌, ◌≢◌, ◌≤◌, ◌⊎◌, Bool, Contains, List, None, Option, Some, Vec, [], codes, count_by, false, length, min, nat_le, nat_lt, not, replicate, slice_index, slice_index_or, suc, take, true, zero, ℕ}
 pub use Rattle.std.specs.Char.{IsScalar}
 pub use Rattle.std.specs.List.{AllByRecursion, concat, list_all, prefix_len}
 pub use Rattle.std.specs.Str.{IsUtf8, all_scalars, chars}

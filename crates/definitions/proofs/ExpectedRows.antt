@@ -16,8 +16,7 @@ one_leaf : (ts : Forest) → AreTrees alone ts (Terminal 0 ∷ []) → yield (Br
 one_leaf Nil h = absurd h
 one_leaf (Cons (Leaf (Token a)) Nil) h = ap (λ b. Token b ∷ []) h.0
 one_leaf (Cons (Leaf (Token a)) (Cons t ts)) h = absurd h.1
-one_leaf (Cons (Leaf Invalid) ts) h = absurd h.0
-one_leaf (Cons (Branch p us) ts) h = absurd h.0
+one_leaf ts h = absurd h.0
 
 right_of : Option Production → List Symbol
 right_of None = []

@@ -74,16 +74,7 @@ module _ (p : Address) (v : Vec Interval Global) (digits : v.items ≡ record { 
 
   tokens : AreTokens rules (codes "12") (token ∷ [])
   tokens = (
-    record {
-      piece = record {
-        nonempty = omega arith;
-        inside = omega arith;
-        matches = twelve;
-        longest = λ j m l h. l;
-        earliest = λ j h. omega arith;
-      };
-      reach = inr (refl, not_dead);
-    },
+    record { piece = record { nonempty = omega arith; inside = omega arith; matches = twelve; longest = λ j m l h. l; earliest = λ j h. omega arith }; reach = inr (refl, not_dead) },
     refl,
   )
 

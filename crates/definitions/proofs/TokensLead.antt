@@ -1,7 +1,6 @@
 -- The first tokens of a text: with those of what they leave they are all its tokens, and the prefix that an edit keeps leads
 -- the edited text.
-use Rattle.definitions.proofs.Common.{prefix_len, cases_lt, leb-true, false≢true, append_assoc, take-take, drop-take, drop-drop, take_at, length-take, sum_by-cons, passes_at_first, Edit, Expression, edit, Token, Placed, IsToken, AreTokens, Leads, placed, boundaries, kept_before, is_rejoined, rejoin}
-use Rattle.std.proofs.Common.{arith, refl, sym, ap, subst, inl, inr, ◌∙◌, cond, length-drop, ◌≡◌, ℕ, zero, suc, ◌+◌, ◌-◌, ◌<◌, ◌≤◌, Bool, true, false, nat_le, List, [], ◌∷◌, ◌++◌, length, take, drop, sum_by, slice_get, slice_index_or, IsSomeAnd}
+use Rattle.definitions.proofs.Common.{prefix_len, cases_lt, leb-true, false≢true, append_assoc, take-take, drop-take, drop-drop, take_at, length-take, sum_by-cons, passes_at_first, Edit, Expression, edit, Token, Placed, IsToken, AreTokens, Leads, placed, boundaries, kept_before, is_rejoined, rejoin, arith, refl, sym, ap, subst, inl, inr, ◌∙◌, cond, length-drop, ◌≡◌, ℕ, zero, suc, ◌+◌, ◌-◌, ◌<◌, ◌≤◌, Bool, true, false, nat_le, List, [], ◌∷◌, ◌++◌, length, take, drop, sum_by, slice_get, slice_index_or, IsSomeAnd}
 use Rattle.definitions.proofs.TokensLocal.{IsToken-local, length-le-reach}
 use Rattle.definitions.proofs.TokensUnique.{IsToken-unique, IsPiece-inside, no_token}
 
@@ -45,11 +44,7 @@ leads_split rules u (x ∷ xs) (y ∷ new) h p =
     let tail : AreTokens rules (drop x.length u) new = subst (λ z. AreTokens rules (drop z.length u) new) same p.1 in
     let later : GoOn rules (drop x.length u) xs new = leads_split rules (drop x.length u) xs new h.1 tail in
     let whole : drop (chars xs) (drop x.length u) ≡ drop (chars (x ∷ xs)) u = drop-drop (chars xs) x.length u ∙ sym (ap (λ n. drop n u) (chars-cons x xs)) in
-    record {
-      rest = later.rest;
-      joined = λ i. same i ∷ later.joined i;
-      tokens = subst (λ v. AreTokens rules v later.rest) whole later.tokens;
-    }
+    record { rest = later.rest; joined = λ i. same i ∷ later.joined i; tokens = subst (λ v. AreTokens rules v later.rest) whole later.tokens }
 
 -- they lie in the text
 pub leads_inside : (rules : List Expression) (u : List ℕ) (xs : List Token) → Leads rules u xs → chars xs ≤ length u

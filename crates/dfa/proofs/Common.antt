@@ -1,4 +1,5 @@
 -- What the proofs of this crate cite of definitions, of types and of other crates, passed on from one place. Declares nothing.
+pub use Rattle.std.proofs.Common.{◌&&◌, ◌*◌, ◌++◌, ◌+◌, ◌-◌, ◌<◌, ◌==◌, ◌||◌, ◌∙◌, ◌∷◌, ◌≡◌, ◌≢◌, ◌≤◌, ◌⊎◌, All, Bool, Contains, Err, Global, IfErr, IfSome, IsTrue, List, None, Ok, Option, Result, Some, Vec, [], add-one, ap, arith, cond, drop, false, filter, get_or, if◌then◌else◌, inl, inr, length, length-drop, nat_eq, nat_le, nat_lt, not, of_calls, refl, rules, slice_get, slice_index_or, subst, suc, sym, take, true, zero, zero-add, ℕ}
 pub use Rattle.std.specs.Prelude.{AllPairs, IsSomeAnd, MatchOption, MatchResult, is_ok, min}
 pub use Rattle.std.specs.List.{AllByRecursion, concat, list_any}
 pub use Rattle.std.specs.Str.{bytes_eq}

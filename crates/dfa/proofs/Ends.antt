@@ -1,6 +1,5 @@
 -- The marks of a text say whether it ends with a text of the expression.
-use Rattle.std.proofs.Common.{◌≡◌, ℕ, ◌+◌, ◌-◌, ◌<◌, Bool, true, List, [], ◌∷◌, ◌++◌, length, take, refl, sym, ap, ◌∙◌, subst, inl, inr, arith, add-one}
-use Rattle.dfa.proofs.Common.{concat, append-nil, append_assoc, or_cases, or_left, or_right, Expression, Literal, Class, Sequence', Choice', Star', Plus', Optional', Matches, IsJoin, IsNonemptyJoin, positions, Then, CanStandAt, mark, literal_end, ends}
+use Rattle.dfa.proofs.Common.{◌≡◌, ℕ, ◌+◌, ◌-◌, ◌<◌, Bool, true, List, [], ◌∷◌, ◌++◌, length, take, refl, sym, ap, ◌∙◌, subst, inl, inr, arith, add-one, concat, append-nil, append_assoc, or_cases, or_left, or_right, Expression, Literal, Class, Sequence', Choice', Star', Plus', Optional', Matches, IsJoin, IsNonemptyJoin, positions, Then, CanStandAt, mark, literal_end, ends}
 use Rattle.dfa.proofs.LastPositions.{Stands, InLiteral, Is, then_left, then_right, below, join_none, join_more, nonempty_join, last_part, sequence_first, sequence_second, sequence_cases}
 
 -- the marks from o on are places where the last character of u can stand in e, and they are all of these
@@ -58,10 +57,7 @@ every_start K marks o d ds u h s = mark_moved marks (o + 0) o (omega arith) (h 0
 -- the marks of the parts of an expression
 pub only_first : (K : List ℕ → Type 0) (a b : Expression) (i j : _) (marks : List Bool) (o : ℕ) (u : List ℕ)
     → Only (Stands K (Sequence' i a j b)) (positions a + positions b) marks o u → Only (Stands K a) (positions a) marks o u
-only_first K a b i j marks o u h q lt m = elim (sequence_cases K a b i j q u (h q (omega (arith, lt)) m)) [
-  | inl s ↦ s
-  | inr s ↦ absurd (omega (arith, s.0, lt))
-]
+only_first K a b i j marks o u h q lt m = elim (sequence_cases K a b i j q u (h q (omega (arith, lt)) m)) [ inl s ↦ s | inr s ↦ absurd (omega (arith, s.0, lt)) ]
 
 pub every_first : (K : List ℕ → Type 0) (a b : Expression) (i j : _) (marks : List Bool) (o : ℕ) (u : List ℕ)
     → Every (Stands K (Sequence' i a j b)) (positions a + positions b) marks o u → Every (Stands K a) (positions a) marks o u
@@ -84,10 +80,7 @@ pub only_one : (K : List ℕ → Type 0) (a b : Expression) (i j : _) (marks : L
     → Only (Stands K (Choice' i a j b)) (positions a + positions b) marks o u → Only (Stands K a) (positions a) marks o u
 only_one K a b i j marks o u h q lt m =
     let s = h q (omega (arith, lt)) m in
-    elim (s.4) [
-      | inl x ↦ (s.0, s.1, s.2, s.3, x)
-      | inr x ↦ absurd (omega (arith, x.0, lt))
-    ]
+    elim (s.4) [ inl x ↦ (s.0, s.1, s.2, s.3, x) | inr x ↦ absurd (omega (arith, x.0, lt)) ]
 
 pub every_one : (K : List ℕ → Type 0) (a b : Expression) (i j : _) (marks : List Bool) (o : ℕ) (u : List ℕ)
     → Every (Stands K (Choice' i a j b)) (positions a + positions b) marks o u → Every (Stands K a) (positions a) marks o u
@@ -97,10 +90,7 @@ pub only_other : (K : List ℕ → Type 0) (a b : Expression) (i j : _) (marks :
     (positions a + positions b) marks o u → Only (Stands K b) (positions b) marks (o + positions a) u
 only_other K a b i j marks o u h q lt m =
     let s = h (positions a + q) (omega (arith, lt)) (mark_moved marks (o + positions a + q) (o + (positions a + q)) (omega arith) m) in
-    elim (s.4) [
-      | inl x ↦ absurd (omega (arith, below a (positions a + q) s.1 x))
-      | inr x ↦ stands_moved K b (positions a + q - positions a) q u (omega arith) (s.0, s.1, s.2, s.3, x.1)
-    ]
+    elim (s.4) [ inl x ↦ absurd (omega (arith, below a (positions a + q) s.1 x)) | inr x ↦ stands_moved K b (positions a + q - positions a) q u (omega arith) (s.0, s.1, s.2, s.3, x.1) ]
 
 pub every_other : (K : List ℕ → Type 0) (a b : Expression) (i j : _) (marks : List Bool) (o : ℕ) (u : List ℕ) → Every (Stands K (Choice' i a j b))
     (positions a + positions b) marks o u → Every (Stands K b) (positions b) marks (o + positions a) u

@@ -1,6 +1,5 @@
 -- The positions that hold a character, as a rising list.
-use Rattle.std.proofs.Common.{◌≡◌, ℕ, zero, suc, ◌+◌, ◌-◌, ◌<◌, ◌≤◌, ◌⊎◌, Bool, true, false, List, [], ◌∷◌, length, slice_index_or, refl, sym, subst, inl, inr, arith, add-one, if◌then◌else◌}
-use Rattle.dfa.proofs.Common.{eqb_tells, Expression, Literal, Class, Sequence', Choice', Star', Plus', Optional', is_in_class, positions, literal_holders, holders, all_positions, all_holders, Among, Rises}
+use Rattle.dfa.proofs.Common.{◌≡◌, ℕ, zero, suc, ◌+◌, ◌-◌, ◌<◌, ◌≤◌, ◌⊎◌, Bool, true, false, List, [], ◌∷◌, length, slice_index_or, refl, sym, subst, inl, inr, arith, add-one, if◌then◌else◌, eqb_tells, Expression, Literal, Class, Sequence', Choice', Star', Plus', Optional', is_in_class, positions, literal_holders, holders, all_positions, all_holders, Among, Rises}
 use Rattle.dfa.proofs.Sets.{among_append, among_left, among_right, rises_append, rises_lower}
 use Rattle.dfa.proofs.Steps.{Holds, holds_below}
 use Rattle.dfa.proofs.RuleLists.{HoldsIn}
@@ -14,10 +13,7 @@ HoldsAt xs c q = (q < length xs) × (slice_index_or xs q 0 ≡ c)
 
 literal_cases : (c o d : ℕ) (ds : List ℕ) → ((d ≡ c) × (literal_holders c o (d ∷ ds) ≡ o ∷ literal_holders c (o + 1) ds))
     ⊎ ((d ≡ c → ⊥) × (literal_holders c o (d ∷ ds) ≡ literal_holders c (o + 1) ds))
-literal_cases c o d ds = elim (eqb_tells d c) [
-  | inl t ↦ inl (t.1, rw (t.0) refl)
-  | inr t ↦ inr (t.1, rw (t.0) refl)
-]
+literal_cases c o d ds = elim (eqb_tells d c) [ inl t ↦ inl (t.1, rw (t.0) refl) | inr t ↦ inr (t.1, rw (t.0) refl) ]
 
 literal_rest : (d : ℕ) (ds : List ℕ) (c o x : ℕ) → Place (HoldsAt ds c) (o + 1) x → Place (HoldsAt (d ∷ ds) c) o x
 literal_rest d ds c o x h = (suc h.0, omega (arith, h.1, add-one h.0), (omega (arith, h.2.0), h.2.1))
@@ -25,26 +21,17 @@ literal_rest d ds c o x h = (suc h.0, omega (arith, h.1, add-one h.0), (omega (a
 literal_sound : (xs : List ℕ) (c o x : ℕ) → Among (literal_holders c o xs) x → Place (HoldsAt xs c) o x
 literal_sound [] c o x h = elim h [ ]
 literal_sound (d ∷ ds) c o x h = elim (literal_cases c o d ds) [
-  | inl t ↦ elim (subst (λ (l : List ℕ). Among l x) t.1 h) [
-    | inl e ↦ (0, omega (arith, e), (omega arith, t.0))
-    | inr m ↦ literal_rest d ds c o x (literal_sound ds c (o + 1) x m)
-  ]
+  | inl t ↦ elim (subst (λ (l : List ℕ). Among l x) t.1 h) [ inl e ↦ (0, omega (arith, e), (omega arith, t.0)) | inr m ↦ literal_rest d ds c o x (literal_sound ds c (o + 1) x m) ]
   | inr t ↦ literal_rest d ds c o x (literal_sound ds c (o + 1) x (subst (λ (l : List ℕ). Among l x) t.1 h))
 ]
 
 literal_complete : (xs : List ℕ) (c o q : ℕ) → HoldsAt xs c q → Among (literal_holders c o xs) (o + q)
 literal_complete [] c o q h = absurd (omega (arith, h.0))
-literal_complete (d ∷ ds) c o zero h = elim (literal_cases c o d ds) [
-  | inl t ↦ subst (λ (l : List ℕ). Among l (o + 0)) (sym t.1) (inl (omega arith))
-  | inr t ↦ absurd (t.0 h.1)
-]
+literal_complete (d ∷ ds) c o zero h = elim (literal_cases c o d ds) [ inl t ↦ subst (λ (l : List ℕ). Among l (o + 0)) (sym t.1) (inl (omega arith)) | inr t ↦ absurd (t.0 h.1) ]
 literal_complete (d ∷ ds) c o (suc q) h =
     let e : o + 1 + q ≡ o + suc q = omega (arith, add-one q) in
     let m : Among (literal_holders c (o + 1) ds) (o + suc q) = subst (λ (x : ℕ). Among (literal_holders c (o + 1) ds) x) e (literal_complete ds c (o + 1) q (omega (arith, h.0), h.1)) in
-    elim (literal_cases c o d ds) [
-      | inl t ↦ subst (λ (l : List ℕ). Among l (o + suc q)) (sym t.1) (inr m)
-      | inr t ↦ subst (λ (l : List ℕ). Among l (o + suc q)) (sym t.1) m
-    ]
+    elim (literal_cases c o d ds) [ inl t ↦ subst (λ (l : List ℕ). Among l (o + suc q)) (sym t.1) (inr m) | inr t ↦ subst (λ (l : List ℕ). Among l (o + suc q)) (sym t.1) m ]
 
 literal_rises : (xs : List ℕ) (c o : ℕ) → Rises o (literal_holders c o xs)
 literal_rises [] c o = tt
@@ -65,10 +52,7 @@ two_sound P Q n o x (inr h) = (n + h.0, omega (arith, h.1), inr (omega arith, (l
 pub holders_sound : (e : Expression) (c o x : ℕ) → Among (holders c o e) x → Place (Holds e c) o x
 holders_sound (Literal v) c o x h = literal_sound v.items c o x h
 holders_sound (Class negated v) c o x h = elim (class_cases (is_in_class negated v.items c) o) [
-  | inl t ↦ elim (subst (λ (l : List ℕ). Among l x) t.1 h) [
-    | inl e ↦ (0, omega (arith, e), (refl, t.0))
-    | inr m ↦ elim m [ ]
-  ]
+  | inl t ↦ elim (subst (λ (l : List ℕ). Among l x) t.1 h) [ inl e ↦ (0, omega (arith, e), (refl, t.0)) | inr m ↦ elim m [ ] ]
   | inr t ↦ elim (subst (λ (l : List ℕ). Among l x) t.1 h) [ ]
 ]
 holders_sound (Sequence' i a j b) c o x h = two_sound (Holds a c) (Holds b c) (positions a) o x (elim (among_append (holders c o a) (holders c (o + positions a) b) x h) [

@@ -1,6 +1,5 @@
 -- Lists that are made part by part.
-use Rattle.std.proofs.Common.{◌≡◌, ℕ, zero, suc, ◌+◌, ◌<◌, false, List, [], ◌∷◌, ◌++◌, length, drop, sym, ap, ◌∙◌, subst, arith, zero-add, get_or}
-use Rattle.dfa.proofs.Common.{append_assoc, Expression, IsWellMade, unmarked, AllMade}
+use Rattle.dfa.proofs.Common.{◌≡◌, ℕ, zero, suc, ◌+◌, ◌<◌, false, List, [], ◌∷◌, ◌++◌, length, drop, sym, ap, ◌∙◌, subst, arith, zero-add, get_or, append_assoc, Expression, IsWellMade, unmarked, AllMade}
 
 pub unmarked-add : (m n : ℕ) → unmarked m ++ unmarked n ≡ unmarked (m + n)
 unmarked-add zero n = ap unmarked (sym (zero-add n))

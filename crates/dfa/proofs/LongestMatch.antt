@@ -1,6 +1,5 @@
 -- Steps of a search for the longest match.
-use Rattle.dfa.proofs.Common.{min, MatchOption, cases_lt, take_more, length-take, get_or-take, get_or-drop, drop-drop, All-push, All-get_or, Expression, IsText, IsCharacter, RuleMatches, IsRulePrefix, IsPiece, IsReach, IsRulePrefix-take, Table, next_state, follower, state_from, state_after, IsFirst, IsAutomaton, Stays, kind_of, Match, IsBest, IsNoted, IsWithinReach}
-use Rattle.std.proofs.Common.{arith, refl, sym, ap, subst, inl, inr, ◌∙◌, length-drop, ◌≡◌, ℕ, zero, suc, ◌+◌, ◌<◌, ◌≤◌, ◌⊎◌, All, List, [], ◌∷◌, ◌++◌, length, take, drop, slice_index_or, Option, Some, None}
+use Rattle.dfa.proofs.Common.{min, MatchOption, cases_lt, take_more, length-take, get_or-take, get_or-drop, drop-drop, All-push, All-get_or, Expression, IsText, IsCharacter, RuleMatches, IsRulePrefix, IsPiece, IsReach, IsRulePrefix-take, Table, next_state, follower, state_from, state_after, IsFirst, IsAutomaton, Stays, kind_of, Match, IsBest, IsNoted, IsWithinReach, arith, refl, sym, ap, subst, inl, inr, ◌∙◌, length-drop, ◌≡◌, ℕ, zero, suc, ◌+◌, ◌<◌, ◌≤◌, ◌⊎◌, All, List, [], ◌∷◌, ◌++◌, length, take, drop, slice_index_or, Option, Some, None}
 
 state_from-more : (table : Table) (o : Option ℕ) (u : List ℕ) (c : ℕ) → state_from table o (u ++ c ∷ []) ≡ next_state table (state_from table o u) c
 state_from-more table o [] c = refl
@@ -53,21 +52,12 @@ prefixes_more rules t n h f m p q = elim (cases_lt n m) [
 -- where none of the longer prefixes has a rule, the best match stays
 unmatched : (rules : List Expression) (t : List ℕ) (n read : ℕ) (r : Option ℕ) (len : ℕ) → IsBest rules t n r len → n ≤ read
     → ((m : ℕ) → n < m → m ≤ read → IsFirst rules (take m t) None) → IsBest rules t read r len
-unmatched rules t n read None len h within f = (
-  h.0,
-  λ j m p q. elim (cases_lt n m) [
-    | inl x ↦ f m x q j
-    | inr x ↦ h.1 j m p x
-  ],
-)
+unmatched rules t n read None len h within f = (h.0, λ j m p q. elim (cases_lt n m) [ inl x ↦ f m x q j | inr x ↦ h.1 j m p x ])
 unmatched rules t n read (Some k) len h within f = (
   h.0,
   let inside : len ≤ n = h.1 in omega arith,
   h.2,
-  λ j m p q. elim (cases_lt n m) [
-    | inl x ↦ f m x q j
-    | inr x ↦ h.3 j m p x
-  ],
+  λ j m p q. elim (cases_lt n m) [ inl x ↦ f m x q j | inr x ↦ h.3 j m p x ],
 )
 
 -- the best match of all that was read: no longer prefix has a rule, or all of it has
@@ -215,31 +205,15 @@ past_end rules t n j m (inl e) p q h = absurd (omega arith)
 past_end rules t n j m (inr e) p q h = e.1 (IsRulePrefix-take rules t j (n + 1) m (omega arith) h)
 
 pub piece_of : (rules : List Expression) (t : List ℕ) (n : ℕ) (r : Option ℕ) (len : ℕ) → IsBest rules t n r len → Ends rules t n → n ≤ length t → 0 < length t → IsPiece rules t (kind_of r) len
-piece_of rules t n None len h e l some = (
-  omega (arith, h.0),
-  omega (arith, h.0),
-  λ j m p q. elim (cases_lt n m) [
-    | inl x ↦ past_end rules t n j m e x q
-    | inr x ↦ h.1 j m p x
-  ],
-)
+piece_of rules t n None len h e l some = (omega (arith, h.0), omega (arith, h.0), λ j m p q. elim (cases_lt n m) [ inl x ↦ past_end rules t n j m e x q | inr x ↦ h.1 j m p x ])
 piece_of rules t n (Some k) len h e l some =
     let within : len ≤ n = h.1 in
     record {
       nonempty = h.0;
       inside = omega arith;
       matches = h.2.0;
-      longest = λ j m q g. elim (cases_lt len m) [
-        | inl past ↦ elim (cases_lt n m) [
-          | inl x ↦ absurd (past_end rules t n j m e x q g)
-          | inr x ↦ absurd (h.3 j m past x g)
-        ]
-        | inr x ↦ x
-      ];
-      earliest = λ j g. elim (cases_lt j k) [
-        | inl x ↦ absurd (h.2.1 j x g)
-        | inr x ↦ x
-      ];
+      longest = λ j m q g. elim (cases_lt len m) [ inl past ↦ elim (cases_lt n m) [ inl x ↦ absurd (past_end rules t n j m e x q g) | inr x ↦ absurd (h.3 j m past x g) ] | inr x ↦ x ];
+      earliest = λ j g. elim (cases_lt j k) [ inl x ↦ absurd (h.2.1 j x g) | inr x ↦ x ];
     }
 
 pub reach_of : (rules : List Expression) (t : List ℕ) (n : ℕ) → ((m : ℕ) → 1 ≤ m → m ≤ n → IsRulePrefix rules (take m t)) → Ends rules t n → IsReach rules t (n + 1)
@@ -247,19 +221,9 @@ reach_of rules t n h (inl e) = inr (omega arith, λ m d. let inside : m ≤ leng
 reach_of rules t n h (inr e) =
     inl (
       record { nonempty = omega arith; inside = omega (arith, e.0); no_prefix = e.1 },
-      λ m d. elim (cases_lt n m) [
-        | inl x ↦ omega arith
-        | inr x ↦ absurd (d.no_prefix (h m d.nonempty x))
-      ],
+      λ m d. elim (cases_lt n m) [ inl x ↦ omega arith | inr x ↦ absurd (d.no_prefix (h m d.nonempty x)) ],
     )
 
 -- what lies one past prefixes of texts of rules is within the reach
 pub within_reach : (rules : List Expression) (t : List ℕ) (o n : ℕ) → o + n < length t → ((m : ℕ) → 1 ≤ m → m ≤ n → IsRulePrefix rules (take m (drop o t))) → IsWithinReach rules t o (o + n)
-within_reach rules t o n l h = record {
-  after = omega arith;
-  inside = l;
-  alive = λ m d. elim (cases_lt n m) [
-    | inl x ↦ omega arith
-    | inr x ↦ absurd (d.no_prefix (h m d.nonempty x))
-  ];
-}
+within_reach rules t o n l h = record { after = omega arith; inside = l; alive = λ m d. elim (cases_lt n m) [ inl x ↦ omega arith | inr x ↦ absurd (d.no_prefix (h m d.nonempty x)) ] }

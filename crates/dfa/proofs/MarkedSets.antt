@@ -1,6 +1,5 @@
 -- The marks of a set, and whether some of them lie in a part of the positions.
-use Rattle.std.proofs.Common.{◌≡◌, ℕ, zero, suc, ◌+◌, ◌<◌, ◌≤◌, ◌⊎◌, Bool, true, false, List, [], ◌∷◌, length, filter, get_or, nat_lt, Result, Ok, Err, refl, sym, ap, ◌∙◌, subst, inl, inr, arith}
-use Rattle.dfa.proofs.Common.{cases_lt, false≢true, or_cases, or_left, or_right, nat_tests, MatchResult, is_ok, mark, marked, marks_of, unmarked, Among, AreBlank, AreMarksOf, Rises, IsAscending, any_mark, listed, kept, false_from_ne_true}
+use Rattle.dfa.proofs.Common.{◌≡◌, ℕ, zero, suc, ◌+◌, ◌<◌, ◌≤◌, ◌⊎◌, Bool, true, false, List, [], ◌∷◌, length, filter, get_or, nat_lt, Result, Ok, Err, refl, sym, ap, ◌∙◌, subst, inl, inr, arith, cases_lt, false≢true, or_cases, or_left, or_right, nat_tests, MatchResult, is_ok, mark, marked, marks_of, unmarked, Among, AreBlank, AreMarksOf, Rises, IsAscending, any_mark, listed, kept, false_from_ne_true}
 use Rattle.dfa.proofs.Sets.{among_filter, among_from_at, at_from_among, filter_among, filter_rises, rises_least, rises_lower, same_set}
 
 marked_here : (p : ℕ) (marks : List Bool) → mark (marked p marks) p ≡ true
@@ -12,9 +11,8 @@ marked_here (suc p) (m ∷ ms) = marked_here p ms
 marked_more : (p q : ℕ) (marks : List Bool) → mark marks q ≡ true → mark (marked p marks) q ≡ true
 marked_more p q [] h = cc
 marked_more zero zero (m ∷ ms) h = refl
-marked_more zero (suc q) (m ∷ ms) h = h
-marked_more (suc p) zero (m ∷ ms) h = h
 marked_more (suc p) (suc q) (m ∷ ms) h = marked_more p q ms h
+marked_more a q (m ∷ ms) h = h
 
 marked_cases : (p q : ℕ) (marks : List Bool) → mark (marked p marks) q ≡ true → (p ≡ q) ⊎ (mark marks q ≡ true)
 marked_cases zero zero marks h = inl refl
@@ -128,11 +126,10 @@ listed_only o zero (false ∷ ms) h = let a = rises_least (o + 1) (listed (o + 1
 listed_only o (suc p) (false ∷ ms) h = let e : o + suc p ≡ o + 1 + p = omega arith in listed_only (o + 1) p ms (subst (λ (x : ℕ). Among (listed (o + 1) ms) x) e h)
 
 listed_every : (o p : ℕ) (marks : List Bool) → mark marks p ≡ true → Among (listed o marks) (o + p)
-listed_every o p [] h = cc
 listed_every o zero (true ∷ ms) h = inl (omega arith)
 listed_every o (suc p) (true ∷ ms) h = let e : o + 1 + p ≡ o + suc p = omega arith in inr (subst (λ (x : ℕ). Among (listed (o + 1) ms) x) e (listed_every (o + 1) p ms h))
-listed_every o zero (false ∷ ms) h = cc
 listed_every o (suc p) (false ∷ ms) h = let e : o + 1 + p ≡ o + suc p = omega arith in subst (λ (x : ℕ). Among (listed (o + 1) ms) x) e (listed_every (o + 1) p ms h)
+listed_every o a b h = cc
 
 pub all_listed_rise : (all : List ℕ) (marks : List Bool) → all ≡ listed 0 marks → Rises 0 all
 all_listed_rise all marks e = subst (Rises 0) (sym e) (listed_rise 0 marks)
@@ -190,10 +187,7 @@ among_cases set p = elim (mark (marks_of set) p) as (λ b. mark (marks_of set) p
 
 pub written_marks : (set : List ℕ) (value : Bool) (old new : List Bool) → Written set value old new (length set) → value ≡ true → AreBlank old → AreMarksOf set new
 written_marks set value old new w v b = record {
-  only = λ p h. elim (among_cases set p) [
-    | inl x ↦ x
-    | inr x ↦ absurd (false≢true (sym (b p) ∙ sym (written_other set value old new p w x) ∙ h))
-  ];
+  only = λ p h. elim (among_cases set p) [ inl x ↦ x | inr x ↦ absurd (false≢true (sym (b p) ∙ sym (written_other set value old new p w x) ∙ h)) ];
   every = λ p h. written_there set value old new p w h ∙ v;
 }
 

@@ -1,6 +1,5 @@
 -- Positions of a list of rules: the marks after one more character, the first rule that ends, and the texts that go on.
-use Rattle.std.proofs.Common.{◌≡◌, ℕ, zero, suc, ◌+◌, ◌-◌, ◌<◌, ◌≤◌, ◌⊎◌, Bool, true, false, List, [], ◌∷◌, ◌++◌, length, Option, Some, None, refl, sym, ap, ◌∙◌, subst, inl, inr, arith, add-one, if◌then◌else◌, slice_get, IsSomeAnd}
-use Rattle.dfa.proofs.Common.{false≢true, Expression, Matches, IsPrefix, IsCharacter, RuleMatches, IsRulePrefix, positions, CanStandAt, StandsAt, mark, ends, next, all_next, first_end, AllMade, IsSetOf, AreMarksOf, IsFirst}
+use Rattle.dfa.proofs.Common.{◌≡◌, ℕ, zero, suc, ◌+◌, ◌-◌, ◌<◌, ◌≤◌, ◌⊎◌, Bool, true, false, List, [], ◌∷◌, ◌++◌, length, Option, Some, None, refl, sym, ap, ◌∙◌, subst, inl, inr, arith, add-one, if◌then◌else◌, slice_get, IsSomeAnd, false≢true, Expression, Matches, IsPrefix, IsCharacter, RuleMatches, IsRulePrefix, positions, CanStandAt, StandsAt, mark, ends, next, all_next, first_end, AllMade, IsSetOf, AreMarksOf, IsFirst}
 use Rattle.dfa.proofs.LastPositions.{Stands, Is, below, nonempty}
 use Rattle.dfa.proofs.Ends.{Only, Every, ends_sound, ends_complete, mark_moved}
 use Rattle.dfa.proofs.Steps.{Holds, holds_below, length-next, mark_left, mark_right, step_sound, step_complete}
@@ -22,10 +21,7 @@ alone_back e q u h = subst (λ (w : List ℕ). CanStandAt e q w) (sym (h.2 ∙ a
 
 module _ (e : Expression) (es : List Expression) (marks : List Bool) (o : ℕ) (u : List ℕ) (a : AreMarks (e ∷ es) marks o u) where
   pub first_only : Only (Stands (Is []) e) (positions e) marks o u
-  first_only q lt m = elim (a.only q m) [
-    | inl s ↦ alone e q u s
-    | inr s ↦ absurd (omega (arith, s.0, lt))
-  ]
+  first_only q lt m = elim (a.only q m) [ inl s ↦ alone e q u s | inr s ↦ absurd (omega (arith, s.0, lt)) ]
 
   pub first_every : Every (Stands (Is []) e) (positions e) marks o u
   first_every q lt s = a.every q (inl (alone_back e q u s))

@@ -1,6 +1,5 @@
 -- Rising lists of numbers as sets.
-use Rattle.std.proofs.Common.{◌≡◌, ℕ, zero, suc, ◌+◌, ◌<◌, ◌≤◌, ◌⊎◌, Bool, true, false, cond, List, [], ◌∷◌, ◌++◌, length, filter, get_or, refl, sym, subst, inl, inr, arith}
-use Rattle.dfa.proofs.Common.{Among, Rises, IsAscending}
+use Rattle.dfa.proofs.Common.{◌≡◌, ℕ, zero, suc, ◌+◌, ◌<◌, ◌≤◌, ◌⊎◌, Bool, true, false, cond, List, [], ◌∷◌, ◌++◌, length, filter, get_or, refl, sym, subst, inl, inr, arith, Among, Rises, IsAscending}
 
 pub among_append : (xs ys : List ℕ) (x : ℕ) → Among (xs ++ ys) x → Among xs x ⊎ Among ys x
 among_append [] ys x h = inr h
@@ -46,10 +45,7 @@ among_filter f (y ∷ ys) x h = elim (filter_cases f y ys) [
 pub filter_among : (f : ℕ → Bool) (xs : List ℕ) (x : ℕ) → Among xs x → f x ≡ true → Among (filter f xs) x
 filter_among f [] x h t = elim h [ ]
 filter_among f (y ∷ ys) x h t = elim (filter_cases f y ys) [
-  | inl c ↦ subst (λ (l : List ℕ). Among l x) (sym c.1) (elim h [
-    | inl e ↦ inl e
-    | inr g ↦ inr (filter_among f ys x g t)
-  ])
+  | inl c ↦ subst (λ (l : List ℕ). Among l x) (sym c.1) (elim h [ inl e ↦ inl e | inr g ↦ inr (filter_among f ys x g t) ])
   | inr c ↦ subst (λ (l : List ℕ). Among l x) (sym c.1) (elim h [
     | inl e ↦ let no : f x ≡ false = subst (λ (z : ℕ). f z ≡ false) e c.0 in cc
     | inr g ↦ filter_among f ys x g t
@@ -71,21 +67,12 @@ same_set n (x ∷ xs) [] r s f g = elim (f x (inl refl)) [ ]
 same_set n (x ∷ xs) (y ∷ ys) r s f g =
     let e : x ≡ y = elim (f x (inl refl)) [
       | inl a ↦ sym a
-      | inr a ↦ elim (g y (inl refl)) [
-        | inl b ↦ b
-        | inr b ↦ absurd (omega (arith, rises_least (y + 1) ys x s.1 a, rises_least (x + 1) xs y r.1 b))
-      ]
+      | inr a ↦ elim (g y (inl refl)) [ inl b ↦ b | inr b ↦ absurd (omega (arith, rises_least (y + 1) ys x s.1 a, rises_least (x + 1) xs y r.1 b)) ]
     ] in
     let t : Rises (x + 1) ys = subst (λ (z : ℕ). Rises (z + 1) ys) (sym e) s.1 in
     let rest = same_set (x + 1) xs ys r.1 t
-    (λ z h. elim (f z (inr h)) [
-      | inl a ↦ absurd (omega (arith, rises_least (x + 1) xs z r.1 h, a, e))
-      | inr a ↦ a
-    ])
-    (λ z h. elim (g z (inr h)) [
-      | inl a ↦ absurd (omega (arith, rises_least (x + 1) ys z t h, a, e))
-      | inr a ↦ a
-    ]) in
+    (λ z h. elim (f z (inr h)) [ inl a ↦ absurd (omega (arith, rises_least (x + 1) xs z r.1 h, a, e)) | inr a ↦ a ])
+    (λ z h. elim (g z (inr h)) [ inl a ↦ absurd (omega (arith, rises_least (x + 1) ys z t h, a, e)) | inr a ↦ a ]) in
     cc
 
 pub at_from_among : (xs : List ℕ) (x : ℕ) → Among xs x → (k : ℕ) × (k < length xs) × (get_or xs k 0 ≡ x)

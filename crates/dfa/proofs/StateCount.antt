@@ -1,6 +1,5 @@
 -- The number of states: texts with different sets of positions have different states.
-use Rattle.std.proofs.Common.{◌≡◌, ℕ, zero, suc, ◌+◌, ◌-◌, Option, ◌<◌, ◌≤◌, ◌⊎◌, List, [], ◌∷◌, ◌++◌, length, slice_index_or, get_or, refl, sym, ap, ◌∙◌, subst, inl, inr, arith, add-one, All}
-use Rattle.dfa.proofs.Common.{AllPairs, cases_lt, length-append, get_or_default, get_or_append_left, get_or-append_right, All-push, all_pairs_push, Into, OneToOne, pigeonhole, Expression, StandsAt, HasPosition, HaveSamePositions, HasMoreStatesThan, AllMade, IsSetOf, table_of, state_after, AreStates, AreRows}
+use Rattle.dfa.proofs.Common.{◌≡◌, ℕ, zero, suc, ◌+◌, ◌-◌, Option, ◌<◌, ◌≤◌, ◌⊎◌, List, [], ◌∷◌, ◌++◌, length, slice_index_or, get_or, refl, sym, ap, ◌∙◌, subst, inl, inr, arith, add-one, All, AllPairs, cases_lt, length-append, get_or_default, get_or_append_left, get_or-append_right, All-push, all_pairs_push, Into, OneToOne, pigeonhole, Expression, StandsAt, HasPosition, HaveSamePositions, HasMoreStatesThan, AllMade, IsSetOf, table_of, state_after, AreStates, AreRows}
 use Rattle.dfa.proofs.CompleteTable.{some_member, shows, at_state, same_positions}
 use Rattle.dfa.proofs.Successors.{set_unique}
 
@@ -43,10 +42,7 @@ module _ (rules : List Expression) (starts : List ℕ) (sets : List (List ℕ)) 
       let into : Into number 4096 4095 = λ i l. omega (arith, number_below texts m.2 i (cases_lt i (length texts)) (omega (arith, l, m.1)), r.bound) in
       let one : OneToOne number 4096 = λ i j k l e. elim (cases_lt i j) [
         | inl x ↦ absurd (differ i j x l e)
-        | inr x ↦ elim (cases_lt j i) [
-          | inl y ↦ absurd (differ j i y k (sym e))
-          | inr y ↦ omega (arith, x, y)
-        ]
+        | inr x ↦ elim (cases_lt j i) [ inl y ↦ absurd (differ j i y k (sym e)) | inr y ↦ omega (arith, x, y) ]
       ] in
       let bad = pigeonhole 4096 4095 number into one in
       absurd (omega (arith, bad))

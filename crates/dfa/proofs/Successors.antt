@@ -1,6 +1,5 @@
 -- The set of positions after one more character.
-use Rattle.std.proofs.Common.{◌≡◌, ℕ, ◌+◌, Bool, true, List, [], ◌∷◌, ◌++◌, subst, arith}
-use Rattle.dfa.proofs.Common.{Expression, IsCharacter, StandsAt, mark, all_next, all_holders, successor, Among, IsSetOf, AreMarksOf}
+use Rattle.dfa.proofs.Common.{◌≡◌, ℕ, ◌+◌, Bool, true, List, [], ◌∷◌, ◌++◌, subst, arith, Expression, IsCharacter, StandsAt, mark, all_next, all_holders, successor, Among, IsSetOf, AreMarksOf}
 use Rattle.dfa.proofs.Sets.{among_filter, filter_among, filter_rises, same_set}
 use Rattle.dfa.proofs.HolderLists.{all_sound, all_complete, all_rise}
 use Rattle.dfa.proofs.RuleLists.{HoldsIn, marks_of_set, next_sound, next_complete, rules_nonempty}
@@ -24,11 +23,7 @@ successor_set rules u set marks start c is k l s m =
     }
 
 pub empty_set : (rules : List Expression) → IsSetOf rules [] []
-empty_set rules = record {
-  rises = tt;
-  only = λ p h. elim h [ ];
-  every = λ p h. absurd (omega (arith, rules_nonempty rules p [] h));
-}
+empty_set rules = record { rises = tt; only = λ p h. elim h [ ]; every = λ p h. absurd (omega (arith, rules_nonempty rules p [] h)) }
 
 -- two texts have the same set exactly where they have the same positions
 pub set_unique : (rules : List Expression) (u v x y : List ℕ) → IsSetOf rules u x → IsSetOf rules v y → ((p : ℕ) → StandsAt rules p u → StandsAt rules p v)

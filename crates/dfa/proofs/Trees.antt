@@ -1,6 +1,5 @@
 -- Trees say the same as the expressions that they are made of, and a part without a mark is passed over.
-use Rattle.std.proofs.Common.{◌≡◌, ℕ, zero, suc, ◌+◌, ◌≤◌, Bool, true, false, ◌||◌, List, [], ◌∷◌, ◌++◌, length, drop, refl, sym, ap, ◌∙◌, subst, arith, ◌<◌, get_or, All, Some, if◌then◌else◌}
-use Rattle.dfa.proofs.Common.{or_parts, append-nil, append_assoc, drop_all, length-append, Expression, Address, Tree, Position, Pair', positions, mark, literal_end, ends, literal_next, next, all_next, all_positions, first_end, AreTreesOf, all_counts, all_tree_next, count, first_tree_end, IsCounted, IsJoined, IsLiteralTree, IsTree, IsTreeOf, any_mark, listed, tree_ends, tree_next}
+use Rattle.dfa.proofs.Common.{◌≡◌, ℕ, zero, suc, ◌+◌, ◌≤◌, Bool, true, false, ◌||◌, List, [], ◌∷◌, ◌++◌, length, drop, refl, sym, ap, ◌∙◌, subst, arith, ◌<◌, get_or, All, Some, if◌then◌else◌, or_parts, append-nil, append_assoc, drop_all, length-append, Expression, Address, Tree, Position, Pair', positions, mark, literal_end, ends, literal_next, next, all_next, all_positions, first_end, AreTreesOf, all_counts, all_tree_next, count, first_tree_end, IsCounted, IsJoined, IsLiteralTree, IsTree, IsTreeOf, any_mark, listed, tree_ends, tree_next}
 use Rattle.definitions.specs.declared.expression.Expression.TheVariants as E
 use Rattle.dfa.specs.declared.tree.Tree.TheVariants.{Plus', Optional'}
 use Rattle.dfa.proofs.Steps.{length-literal_next, length-next}
@@ -192,16 +191,14 @@ none_added t marks o start out apart k =
 -- the trees of a list of rules
 pub trees_counted : (rules : List Expression) (trees : List Tree) → AreTreesOf rules trees → All IsCounted trees
 trees_counted [] [] a k d lt = absurd (omega (arith, lt))
-trees_counted [] (t ∷ ts) a k d lt = elim a [ ]
-trees_counted (e ∷ es) [] a k d lt = elim a [ ]
 trees_counted (e ∷ es) (t ∷ ts) a zero d lt = a.0.counted
 trees_counted (e ∷ es) (t ∷ ts) a (suc k) d lt = trees_counted es ts a.1 k d (omega (arith, lt))
+trees_counted rules trees a k d lt = elim a [ ]
 
 pub trees_count : (rules : List Expression) (trees : List Tree) → AreTreesOf rules trees → all_counts trees ≡ all_positions rules
 trees_count [] [] a = refl
-trees_count [] (t ∷ ts) a = elim a [ ]
-trees_count (e ∷ es) [] a = elim a [ ]
 trees_count (e ∷ es) (t ∷ ts) a = (λ i. a.0.many i + trees_count es ts a.1 i)
+trees_count rules trees a = elim a [ ]
 
 -- a rule has no more positions than all rules
 pub rule_within : (rules : List Expression) (i : ℕ) (d : Expression) → i < length rules → positions (get_or rules i d) ≤ all_positions rules
@@ -212,16 +209,14 @@ rule_within (e ∷ es) (suc i) d lt = omega (arith, rule_within es i d (omega (a
 pub trees_next : (rules : List Expression) (trees : List Tree) (marks : List Bool) (o : ℕ) (start : Bool) → AreTreesOf rules trees
     → all_tree_next marks o start trees ≡ listed o (all_next marks o start rules)
 trees_next [] [] marks o start a = refl
-trees_next [] (t ∷ ts) marks o start a = elim a [ ]
-trees_next (e ∷ es) [] marks o start a = elim a [ ]
 trees_next (e ∷ es) (t ∷ ts) marks o start a = (λ i. a.0.next marks o start i ++ trees_next es ts marks (o + a.0.many i) start a.1 i)
     ∙ sym (listed-append o (positions e) (next marks o start e) (all_next marks (o + positions e) start es) (length-next e marks o start))
+trees_next rules trees marks o start a = elim a [ ]
 
 pub trees_end : (rules : List Expression) (trees : List Tree) (marks : List Bool) (o k : ℕ) → AreTreesOf rules trees → first_tree_end marks o k trees ≡ first_end marks o k rules
 trees_end [] [] marks o k a = refl
-trees_end [] (t ∷ ts) marks o k a = elim a [ ]
-trees_end (e ∷ es) [] marks o k a = elim a [ ]
 trees_end (e ∷ es) (t ∷ ts) marks o k a = (λ i. if a.0.ends marks o false i then Some k else trees_end es ts marks (o + a.0.many i) (k + 1) a.1 i)
+trees_end rules trees marks o k a = elim a [ ]
 
 pub one_more_tree : (rules rest later : List Expression) (e : Expression) (trees new : List Tree) (t : Tree) → rest ≡ e ∷ later → new ≡ trees ++ t ∷ [] → IsTreeOf e t
     → ((more : List Tree) → AreTreesOf rest more → AreTreesOf rules (trees ++ more)) → (more : List Tree) → AreTreesOf later more → AreTreesOf rules (new ++ more)

@@ -1,8 +1,8 @@
 -- What the proofs of this crate cite of definitions, of types and of other crates, passed on from one place. Declares nothing.
-pub use Rattle.std.specs.Prelude.{IfOk, IsErrAnd, Ok, OnOk, Result, encode_utf8_all, nat_le}
+pub use Rattle.std.proofs.Common.{◌++◌, ◌+◌, ◌-◌, ◌<◌, ◌==◌, ◌↔◌, ◌∙◌, ◌∷◌, ◌≡◌, ◌≤◌, ◌⊎◌, All, Bool, Err, List, MatchOption, None, Option, Some, Vec, [], ap, arith, cond, drop, encode_utf8, false, filter, get_or, if◌then◌else◌, inl, inr, le-ltb, leb-false, leb-true, length, map, min, nat_lt, not, option_map, refl, rules, slice_range, subst, suc, sym, take, true, unwrap_or, zero, ℕ, ⊎_elim}
+pub use Rattle.std.specs.Prelude.{IfOk, IsErrAnd, Ok, Result, encode_utf8_all, nat_le}
 pub use Rattle.std.specs.Global.{Global}
 pub use Rattle.std.specs.List.{AllByRecursion}
-pub use Rattle.std.specs.Result.{result_and}
 pub use Rattle.std.specs.Str.{IsUtf8, chars}
 pub use Rattle.std.proofs.Math.Nat.{le-max_left, le-max_right, max-le, min-eq_left, min-eq_right, min-le_left, min-le_right}
 pub use Rattle.std.proofs.lemmas.Bool.{cases_lt, eq-eqb, eqb-true, true_from_ne_false}
@@ -31,14 +31,12 @@ pub use Rattle.definitions.specs.declared.Stats.{Stats}
 pub use Rattle.definitions.specs.declared.Unit.{Unit as Encoding}
 pub use Rattle.docs.specs.Docs.{IsCurrent, last_edit, open_document}
 pub use Rattle.docs.specs.Faults.{doc_fault}
-pub use Rattle.docs.specs.Outcomes.{IsOutcome}
 pub use Rattle.docs.specs.Pending.{number_or}
 pub use Rattle.docs.specs.Settling.{IsSettled, LeadsTo}
 pub use Rattle.docs.specs.Stamps.{AreStamped, splice_between}
 pub use Rattle.docs.specs.declared.doc.Doc.{Doc}
 pub use Rattle.docs.specs.declared.doc.DocFault.{DocFault}
 pub use Rattle.docs.specs.declared.doc.DocFault.TheVariants.{Memory, TooLarge}
-pub use Rattle.docs.specs.declared.doc.Outcome.TheVariants.{Fault as OutcomeFault}
 pub use Rattle.grammar.specs.Grammars.{FileGrammar, lexicon_of}
 pub use Rattle.docs.specs.Languages.{HasAutomaton, IsLanguageOf, LanguageData}
 pub use Rattle.lexer.specs.Rescans.{AreRescanned, plain_all, significant_kinds}

@@ -1,7 +1,6 @@
 -- What the edits of a document make, and that one answer reports it.
-use Rattle.std.proofs.Common.{◌≡◌, ◌<◌, ◌≤◌, ℕ, zero, suc, ◌+◌, ◌-◌, List, [], ◌∷◌, ◌++◌, length, map, min, refl, sym, ap, subst, ◌∙◌, ◌⊎◌, inl, inr, ⊎_elim, Bool, true, false, arith, ◌==◌, Option, Some, None, if◌then◌else◌}
-use Rattle.docs.proofs.Common.{cases_lt, eq-eqb, eqb-true, length-map, min-eq_left, min-eq_right, Edit, Kind, Range, Stats, Encoding, StandsIn, branches, branches_of, all_branches, changed, span, Splice, made, splice, IsKept, Built, Nothing, Kept, New, Stamped, StampedLeaf, StampedBranch, StampedForest, StampedNil, StampedCons, plain_trees, Tree, Forest, Leaf, Branch, significant_kinds, plain_token, AreMadeBy, IsMadeBy, plain_of, AreOlder, none_by, older_by, AreUpTo, before_fault, last_leaf, branches_by, branches_of_by, all_branches_by, verdict_in, stands_split, not_in_leaf, nowhere, stands_in_prefix, Child, all_trees, forest_in, forest_of, trees_of, tree_of, Doc, IsReading, IsNext, AreStats, ReportsLast, IsAbove, number_of, number_after, edit_of, last_edit, open_document, IsCurrent, LanguageData, LastEdit}
-use Rattle.definitions.specs.TreeEdits.{Token, plain, plain_all}
+use Rattle.docs.proofs.Common.{◌≡◌, ◌<◌, ◌≤◌, ℕ, zero, suc, ◌+◌, ◌-◌, List, [], ◌∷◌, ◌++◌, length, map, min, refl, sym, ap, subst, ◌∙◌, ◌⊎◌, inl, inr, ⊎_elim, Bool, true, false, arith, ◌==◌, Option, Some, None, if◌then◌else◌, cases_lt, eq-eqb, eqb-true, length-map, min-eq_left, min-eq_right, Edit, Kind, Range, Stats, Encoding, StandsIn, branches, branches_of, all_branches, changed, span, Splice, made, splice, IsKept, Built, Nothing, Kept, New, Stamped, StampedLeaf, StampedBranch, StampedForest, StampedNil, StampedCons, plain_trees, Tree, Forest, Leaf, Branch, significant_kinds, plain_token, AreMadeBy, IsMadeBy, plain_of, AreOlder, none_by, older_by, AreUpTo, before_fault, last_leaf, branches_by, branches_of_by, all_branches_by, verdict_in, stands_split, not_in_leaf, nowhere, stands_in_prefix, Child, all_trees, forest_in, forest_of, trees_of, tree_of, Doc, IsReading, IsNext, AreStats, ReportsLast, IsAbove, number_of, number_after, edit_of, last_edit, open_document, IsCurrent, LanguageData, LastEdit, plain_tree as plain}
+use Rattle.definitions.specs.TreeEdits.{Token, plain_all}
 use Rattle.docs.proofs.StoredReading.{reading_of, stacked_reading, stacked_trees}
 
 -- ---- a last leaf is no node
@@ -28,22 +27,10 @@ stands_before ts x {p = p} {us = us} stands =
 
 module _ (s : Splice) (old : List Tree) (x : List Kind) where
   kept_longer : {place p : ℕ} {us : Forest} → IsKept s old place p us → IsKept s (old ++ last_leaf x) place p us
-  kept_longer kept = record {
-    lefts = kept.lefts;
-    stood = stands_in_prefix (last_leaf x) kept.stood;
-    not_empty = kept.not_empty;
-    untouched = kept.untouched;
-    moved = kept.moved;
-  }
+  kept_longer kept = record { lefts = kept.lefts; stood = stands_in_prefix (last_leaf x) kept.stood; not_empty = kept.not_empty; untouched = kept.untouched; moved = kept.moved }
 
   kept_before : {place p : ℕ} {us : Forest} → IsKept s (old ++ last_leaf x) place p us → IsKept s old place p us
-  kept_before kept = record {
-    lefts = kept.lefts;
-    stood = stands_before old x kept.stood;
-    not_empty = kept.not_empty;
-    untouched = kept.untouched;
-    moved = kept.moved;
-  }
+  kept_before kept = record { lefts = kept.lefts; stood = stands_before old x kept.stood; not_empty = kept.not_empty; untouched = kept.untouched; moved = kept.moved }
 
   built_of : {place n : ℕ} {new : List Tree} → Built s (old ++ last_leaf x) place new n → Built s old place new n
   built_of Nothing = Nothing

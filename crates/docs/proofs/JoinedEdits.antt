@@ -1,6 +1,5 @@
 -- Edits that follow each other, as one edit.
-use Rattle.std.proofs.Common.{◌≡◌, ◌≤◌, ◌+◌, ◌-◌, ℕ, List, [], ◌++◌, length, take, drop, sym, ap, ◌∙◌, arith, Option, Some, None, MatchOption, unwrap_or}
-use Rattle.docs.proofs.Common.{append-nil, append_assoc, drop-drop, drop-take, length-append, length-drop, length-take, take_at, take-append-drop, take-take, Edit, edit, drop-edit, length-edit, LeadsTo}
+use Rattle.docs.proofs.Common.{◌≡◌, ◌≤◌, ◌+◌, ◌-◌, ℕ, List, [], ◌++◌, length, take, drop, sym, ap, ◌∙◌, arith, Option, Some, None, MatchOption, unwrap_or, append-nil, append_assoc, drop-drop, drop-take, length-append, length-drop, length-take, take_at, take-append-drop, take-take, Edit, edit, drop-edit, length-edit, LeadsTo}
 
 -- what an edit inserts lies within the text after it
 pub inserted_within : (was now : List ℕ) (e : Edit) → LeadsTo was e now → e.at + e.inserted ≤ length now

@@ -1,6 +1,5 @@
 -- A text's refusal, passed on as a document's.
-use Rattle.std.proofs.Common.{◌≡◌, ◌↔◌, ◌<◌, ℕ, Bool, true, false, List, length, refl, sym, ap, subst, ◌∙◌, leb-true, leb-false, Option, Err}
-use Rattle.docs.proofs.Common.{Result, Ok, IfOk, IsErrAnd, OnOk, nat_le, encode_utf8_all, result_and, chars, IsUtf8, err_from_is_err_and, IsText, changed, span, Range, Encoding, IsText-chars, IsText-edit, TextFault, DocFault, TooLarge, Memory, doc_fault, fits, fits_from, too_long, spelled_large, large_from}
+use Rattle.docs.proofs.Common.{◌≡◌, ◌↔◌, ◌<◌, ℕ, Bool, true, false, List, length, refl, sym, ap, subst, ◌∙◌, leb-true, leb-false, Option, Err, Result, Ok, IsErrAnd, nat_le, encode_utf8_all, chars, IsUtf8, err_from_is_err_and, IsText, changed, span, Range, Encoding, IsText-chars, IsText-edit, TextFault, DocFault, TooLarge, Memory, doc_fault, fits, fits_from, too_long, spelled_large, large_from}
 use Rattle.text.specs.declared.document.TextFault.TheVariants as text
 
 -- where a text is too large
@@ -67,9 +66,6 @@ module _ {S : Type 0} (made : Result S TextFault) (over : Type 0) (by : (made �
 
     -- nothing was refused
     pub all_made : (x : S) (y : T) → made ≡ Ok x → result ≡ Ok y → (result ≡ Err TooLarge) ↔ over
-    all_made x y was is = (
-      λ r. absurd (let oks : Ok y ≡ Err TooLarge = sym is ∙ r in let f : ⊥ = cc in f),
-      λ o. absurd (text_made x was o),
-    )
+    all_made x y was is = (λ r. absurd (let oks : Ok y ≡ Err TooLarge = sym is ∙ r in let f : ⊥ = cc in f), λ o. absurd (text_made x was o))
 
 -- ---- what `made.and(Ok(x))` is

@@ -1,6 +1,5 @@
 -- The tokens and the parse that are kept, and what is reported of them.
-use Rattle.std.proofs.Common.{◌≡◌, ◌≤◌, ◌⊎◌, ◌↔◌, inl, inr, ℕ, Bool, true, false, not, cond, List, [], ◌∷◌, ◌++◌, encode_utf8_all, map, length, refl, sym, ap, subst, ◌∙◌, Option, None, option_map, Some, Vec, filter, Result, Ok, Err, IfOk}
-use Rattle.docs.proofs.Common.{Global, AllByRecursion, IfOk-weaker, recursion_from_All, Kind, Range, Position, Encoding, Stored, Fault, Node, AreFolds, IsSelection, AreDocumentTrees, IsNodeOf, IsVerdict, Answered, offset, Placed, is_skipped, kinds, Grammar, Tree, HaveRoots, all_kinds, FileGrammar, lexicon_of, Token, significant_kinds, kind_in, plain, is_significant, AreTokensOf, Verdict, TreeAt, FaultAt, FaultAtEnd, plain_of, AreStacked, IsParseOf, verdict_in, Sets, Cell, tree, NodeId, NodeChild, plain_tree, text_of, Child, AreFoldsOf, AreRootsOf, IsSelectionOf, placed_parts, trees_of_roots, IsDiagnosis, fault_of, Doc, OutcomeFault, IsCurrent, LanguageData, IsOutcome, Reading, IsReading, Reads, rows, written_tree, AreSelections, IsReported}
+use Rattle.docs.proofs.Common.{◌≡◌, ◌≤◌, ◌⊎◌, ◌↔◌, inl, inr, ℕ, Bool, true, false, not, cond, List, [], ◌∷◌, ◌++◌, encode_utf8_all, map, length, refl, sym, ap, subst, ◌∙◌, Option, None, option_map, Some, Vec, filter, Result, IfOk, Global, AllByRecursion, IfOk-weaker, recursion_from_All, Kind, Range, Position, Encoding, Stored, Fault, Node, AreFolds, IsSelection, AreDocumentTrees, IsNodeOf, IsVerdict, Answered, offset, Placed, is_skipped, kinds, Grammar, Tree, HaveRoots, all_kinds, FileGrammar, lexicon_of, Token, significant_kinds, kind_in, plain, is_significant, AreTokensOf, Verdict, TreeAt, FaultAt, FaultAtEnd, plain_of, AreStacked, IsParseOf, verdict_in, Sets, Cell, tree, NodeId, NodeChild, plain_tree, text_of, Child, AreFoldsOf, AreRootsOf, IsSelectionOf, placed_parts, trees_of_roots, IsDiagnosis, fault_of, Doc, IsCurrent, LanguageData, Reading, IsReading, Reads, rows, written_tree, AreSelections, IsReported}
 
 -- ---- the kinds of significant tokens
 
@@ -8,8 +7,7 @@ one_more : (marked skipped : Bool) (x : Token) (rest : List Token) (after : List
     → map kind_in (cond (not marked) (x ∷ rest) rest) ≡ cond (not skipped) (kind_in x ∷ after) after
 one_more true true x rest after e f = f
 one_more false false x rest after e f = ap (λ ks. kind_in x ∷ ks) f
-one_more true false x rest after e f = absurd (let g : ⊥ = cc in g)
-one_more false true x rest after e f = absurd (let g : ⊥ = cc in g)
+one_more marked skipped x rest after e f = absurd (let g : ⊥ = cc in g)
 
 kinds_same : (skips : List Bool) (items : List Token) → AllByRecursion (λ x. x.skipped ≡ is_skipped skips (kind_in x)) items → significant_kinds items ≡ kinds skips (map plain items)
 kinds_same skips [] all = refl

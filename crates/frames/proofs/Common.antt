@@ -1,4 +1,5 @@
 -- What the proofs of this crate cite of definitions, of types and of other crates, passed on from one place. Declares nothing.
+pub use Rattle.std.proofs.Common.{◌%◌, ◌&&◌, ◌++◌, ◌+◌, ◌-◌, ◌/◌, ◌<◌, ◌==◌, ◌^◌, ◌||◌, ◌↔◌, ◌∙◌, ◌∷◌, ◌≡◌, ◌≢◌, ◌≤◌, ◌⊎◌, All, Any, Bool, Err, IfErr, IfOk, IfSome, IsErrOf, IsTrue, List, None, Ok, Option, Result, Some, [], add-one, ap, append-nil, append_assoc, arith, codes, cond, decimal, drop, drop-cons, false, get_or, inl, inr, is_some, length, length-append, length-drop, min, nat_eq, nat_le, nat_lt, not, option_and_then, option_map, refl, reverse, rules, subst, suc, sym, take, true, zero, ℕ}
 pub use Rattle.std.specs.Char.{digit_value, is_ascii_digit, is_ascii_whitespace}
 pub use Rattle.std.specs.Io.KnownBytes.{Appends, Keeps}
 pub use Rattle.std.specs.List.{flat_map, list_all, prefix_len, starts_with, suffix_len}

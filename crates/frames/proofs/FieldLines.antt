@@ -1,6 +1,5 @@
 -- The lines that CR LF ends are the field lines of a header part.
-use Rattle.std.proofs.Common.{◌≡◌, ◌-◌, ℕ, Bool, true, false, List, [], ◌∷◌, ◌++◌, length, take, drop, refl, ap, sym, ◌∙◌, arith, append_assoc, length-append, inl, inr, Option, Some, None, nat_eq, cond, All}
-use Rattle.frames.proofs.Common.{starts_with, flat_map, Decides-eqb, starts_is, take-append-drop, length-take, All-nil, All-cons, All-head, All-tail, take-append_seam, through, line_end, onto_first_line, lines_of, IsWhole, AreFieldLines}
+use Rattle.frames.proofs.Common.{◌≡◌, ◌-◌, ℕ, Bool, true, false, List, [], ◌∷◌, ◌++◌, length, take, drop, refl, ap, sym, ◌∙◌, arith, append_assoc, length-append, inl, inr, Option, Some, None, nat_eq, cond, All, starts_with, flat_map, Decides-eqb, starts_is, take-append-drop, length-take, All-nil, All-cons, All-head, All-tail, take-append_seam, through, line_end, onto_first_line, lines_of, IsWhole, AreFieldLines}
 use Rattle.frames.proofs.PrefixDecides.{through_stays, through_bounds}
 use Rattle.frames.proofs.Lines.{first_line, no_line, none_at}
 
@@ -102,10 +101,7 @@ longest_header_of bytes = let e : length (bytes ++ line_end) - 2 ≡ length byte
 
 -- a whole header part has them
 pub has_field_lines : (part : List ℕ) → IsWhole part → AreFieldLines part (lines_of (take (length part - 2) part))
-has_field_lines part (inl h) = record {
-  parts = h ∙ ap (λ p. joined (lines_of (take (length p - 2) p)) ++ line_end) (sym h);
-  single = lines_single (take (length part - 2) part);
-}
+has_field_lines part (inl h) = record { parts = h ∙ ap (λ p. joined (lines_of (take (length p - 2) p)) ++ line_end) (sym h); single = lines_single (take (length part - 2) part) }
 has_field_lines part (inr h) =
     let ended = h.0 ++ line_end in
     let whole : part ≡ ended ++ line_end = h.1 ∙ sym (append_assoc h.0 line_end line_end) in

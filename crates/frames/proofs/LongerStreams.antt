@@ -1,6 +1,5 @@
 -- A stream that goes on.
-use Rattle.std.proofs.Common.{◌≡◌, ◌≢◌, ◌+◌, ◌<◌, ◌≤◌, ℕ, zero, suc, List, [], ◌∷◌, ◌++◌, length, take, drop, refl, ap, sym, subst, ◌∙◌, arith, length-drop, append-nil, inl, inr, min}
-use Rattle.frames.proofs.Common.{take-append-le, drop-append-le, length-take, cases_lt, Start, NeedsMore, Fails, Announces, FrameFault, Tail, Open, Faulty, Splits, BeginsWith, IsTail, IsBegun, HasSplit, start_of, Continues, GoesOn}
+use Rattle.frames.proofs.Common.{◌≡◌, ◌≢◌, ◌+◌, ◌<◌, ◌≤◌, ℕ, zero, suc, List, [], ◌∷◌, ◌++◌, length, take, drop, refl, ap, sym, subst, ◌∙◌, arith, length-drop, append-nil, inl, inr, min, take-append-le, drop-append-le, length-take, cases_lt, Start, NeedsMore, Fails, Announces, FrameFault, Tail, Open, Faulty, Splits, BeginsWith, IsTail, IsBegun, HasSplit, start_of, Continues, GoesOn}
 use Rattle.frames.proofs.PrefixDecides.{start_stays, start_within, start_low}
 
 -- a frame lies within the bytes
@@ -93,10 +92,7 @@ content_long bytes size n room = omega (arith, length-take n (drop size bytes), 
 announced : (bytes : List ℕ) (size n : ℕ) → start_of bytes ≡ Announces size n → size + n ≤ length bytes → BeginsWith bytes (take n (drop size bytes)) size
 announced bytes size n h room =
     let long = content_long bytes size n room in
-    record {
-      header = h ∙ ap (Announces size) (sym long);
-      follows = ap (λ k. take k (drop size bytes)) long;
-    }
+    record { header = h ∙ ap (Announces size) (sym long); follows = ap (λ k. take k (drop size bytes)) long }
 
 -- a stream has a split if each shorter one has
 split_from : (bytes : List ℕ) → ((rest : List ℕ) → length rest < length bytes → HasSplit rest) → (s : Start) → start_of bytes ≡ s → HasSplit bytes

@@ -1,4 +1,5 @@
 -- What the proofs of this crate cite of definitions, of types and of other crates, passed on from one place. Declares nothing.
+pub use Rattle.std.proofs.Common.{◌&&◌, ◌*◌, ◌++◌, ◌+◌, ◌<◌, ◌==◌, ◌||◌, ◌↔◌, ◌∙◌, ◌∷◌, ◌≡◌, ◌≢◌, ◌≤◌, ◌⊎◌, All, Bool, Bor, Err, IfErr, IfOk, List, None, Ok, Result, Some, [], ap, append-nil, append_assoc, arith, chars, cond, drop, eq-eqb, false, get_or, if◌then◌else◌, inl, inr, length, length-append, map, not, refl, replicate, set, slice_get, slice_index_or, subst, suc, sym, take, tests, true, zero, ℕ}
 pub use Rattle.std.specs.Prelude.{Option, codes, filter, nat_lt, unwrap_or}
 pub use Rattle.std.specs.Cmp.Lexicographic.{pointwise}
 pub use Rattle.std.specs.List.{cons_option, enumerate_from, filter_map, flat_map, fold, list_all, list_any, prefix_len, sum_by}

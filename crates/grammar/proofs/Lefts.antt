@@ -1,6 +1,5 @@
 -- The productions of a nonterminal.
-use Rattle.std.proofs.Common.{◌≡◌, ℕ, zero, suc, ◌<◌, Bool, true, false, ◌&&◌, ◌||◌, List, [], ◌∷◌, ◌++◌, refl, ap, sym, ◌∙◌, length, get_or, arith, Bor, eq-eqb, if◌then◌else◌, Some, map, slice_get}
-use Rattle.grammar.proofs.Common.{list_any, fold, cons_option, bytes_eq, list_any-append, list_any_at, slice_get_within, get_or_from_slice_get, Statement, Line, Nothing, Production, Rule, Start, Fold, Bad, ProductionLine, as_production, productions, nonterminals, with_name, is_among, is_production_of, texts}
+use Rattle.grammar.proofs.Common.{◌≡◌, ℕ, zero, suc, ◌<◌, Bool, true, false, ◌&&◌, ◌||◌, List, [], ◌∷◌, ◌++◌, refl, ap, sym, ◌∙◌, length, get_or, arith, Bor, eq-eqb, if◌then◌else◌, Some, map, slice_get, list_any, fold, cons_option, bytes_eq, list_any-append, list_any_at, slice_get_within, get_or_from_slice_get, Statement, Line, Nothing, ProductionLine, as_production, productions, nonterminals, with_name, is_among, is_production_of, texts}
 
 pub bytes_eq_same : (w : List ℕ) → bytes_eq w w ≡ true
 bytes_eq_same [] = refl
@@ -34,11 +33,7 @@ among_fold w names (x ∷ ws) h = with_one w x names ws (among_fold w (with_name
 
 one_line : (w : List ℕ) (l : Line) (ps : List ProductionLine) → is_among w (map (λ p. p.left) (cons_option (as_production l) ps)) ≡ (is_production_of w l || is_among w (map (λ p. p.left) ps))
 one_line w Nothing ps = refl
-one_line w (Production left right) ps = refl
-one_line w (Rule skip name pattern) ps = refl
-one_line w (Start name) ps = refl
-one_line w (Fold name) ps = refl
-one_line w Bad ps = refl
+one_line w l ps = refl
 
 among_lefts : (w : List ℕ) (ss : List Statement) → is_among w (map (λ p. p.left) (productions ss)) ≡ list_any (λ s. is_production_of w s.says) ss
 among_lefts w [] = refl

@@ -1,7 +1,5 @@
 -- What marks at nonterminals mean.
-use Rattle.std.proofs.Common.{◌≡◌, ◌≢◌, ℕ, ◌+◌, ◌<◌, Bool, true, false, ◌&&◌, List, [], ◌∷◌, ◌++◌, refl, ap, sym, ◌∙◌, length, take, get_or, set, arith, subst, inl, inr, ◌⊎◌, not, slice_get, slice_index_or}
-use Rattle.grammar.proofs.Common.{sum_by, take_more, get_or-set_other, sum_by-set, nat_tests, Token, Invalid, Symbol, Terminal, Nonterminal, Grammar, Tree, Forest, Leaf, Branch, Nil, Cons, IsTree, AreTrees, IsProductive, is_marked, are_marked, is_ready, IsClosed, IsNext, AreBelow, AreSound, AreComplete, IsFirstUnmarked, IsUnproductiveIn, push_at, and_parts}
-use Rattle.definitions.specs.Trees.{Production}
+use Rattle.grammar.proofs.Common.{◌≡◌, ◌≢◌, ℕ, ◌+◌, ◌<◌, Bool, true, false, ◌&&◌, List, [], ◌∷◌, ◌++◌, refl, ap, sym, ◌∙◌, length, take, get_or, set, arith, subst, inl, inr, ◌⊎◌, not, slice_get, slice_index_or, sum_by, take_more, get_or-set_other, sum_by-set, nat_tests, Token, Invalid, Symbol, Terminal, Nonterminal, Grammar, Tree, Forest, Leaf, Branch, Nil, Cons, IsTree, AreTrees, IsProductive, is_marked, are_marked, is_ready, IsClosed, IsNext, AreBelow, AreSound, AreComplete, IsFirstUnmarked, IsUnproductiveIn, push_at, and_parts, Production' as Production}
 
 -- how many have no mark
 abbrev pub weight : Bool → ℕ
@@ -28,14 +26,7 @@ pub next_productive : (ps : List Production) (marks : List Bool) (n : ℕ) (g : 
 next_productive ps marks n g sound next same =
     let ts = forest_over ps marks g next.production.right sound same next.marked in
     let P : ℕ → Type 0 = λ m. IsProductive g (Nonterminal m) in
-    subst P next.left_is (
-      Branch next.number ts.0,
-      (
-        next.production.right,
-        ap (λ (qs : List Production). slice_get qs next.number) same ∙ next.there,
-        ts.1,
-      ),
-    )
+    subst P next.left_is (Branch next.number ts.0, (next.production.right, ap (λ (qs : List Production). slice_get qs next.number) same ∙ next.there, ts.1))
 
 mutual
   tree_marked : (ps : List Production) (marks : List Bool) (g : Grammar) → IsClosed ps marks → g.productions ≡ ps → (t : Tree) (s : Symbol) → IsTree g t s → is_marked marks s ≡ true
@@ -48,10 +39,9 @@ mutual
 
   forest_marked : (ps : List Production) (marks : List Bool) (g : Grammar) → IsClosed ps marks → g.productions ≡ ps → (ts : Forest) (ss : List Symbol) → AreTrees g ts ss → are_marked marks ss ≡ true
   forest_marked ps marks g closed same Nil [] are = refl
-  forest_marked ps marks g closed same Nil (s ∷ ss) are = absurd are
-  forest_marked ps marks g closed same (Cons t ts) [] are = absurd are
   forest_marked ps marks g closed same (Cons t ts) (s ∷ ss) (one, more) =
       ap (λ b. b && are_marked marks ss) (tree_marked ps marks g closed same t s one) ∙ forest_marked ps marks g closed same ts ss more
+  forest_marked ps marks g closed same ts ss are = absurd are
 
 -- closed marks are complete
 pub complete : (ps : List Production) (marks : List Bool) → IsClosed ps marks → AreComplete ps marks

@@ -1,6 +1,5 @@
 -- The numbers of names, and that different names and productions have different ones.
-use Rattle.std.proofs.Common.{◌≡◌, ◌⊎◌, inl, inr, ℕ, zero, suc, ◌+◌, ◌<◌, Bool, true, false, not, ◌&&◌, ◌||◌, cond, List, [], ◌∷◌, refl, ap, sym, ◌∙◌, length, arith, subst, Some, None, map, take, slice_get}
-use Rattle.grammar.proofs.Common.{nat_lt, unwrap_or, Option, list_any, filter_map, cons_option, prefix_len, nat_tests, bytes_eq, pointwise, bytes_eq-Decides, slice_get_within, get_or_from_slice_get, list_any_at, cases_lt, Terminal, Nonterminal, HasDistinctProductions, Word, plain, Statement, Line, Nothing, Production, Rule, Start, Fold, Bad, ProductionLine, as_production, productions, nonterminals, is_among, number_of, rule_names, symbol_of, production_of, grammar_of, AreFaultless, early_fault, has_production, is_production, has_rule, or_else, cause_if, reserved, Cause, DefinedTwice, or_parts}
+use Rattle.grammar.proofs.Common.{◌≡◌, ◌⊎◌, inl, inr, ℕ, zero, suc, ◌+◌, ◌<◌, Bool, true, false, not, ◌&&◌, ◌||◌, cond, List, [], ◌∷◌, refl, ap, sym, ◌∙◌, length, arith, subst, Some, None, map, take, slice_get, nat_lt, unwrap_or, Option, list_any, filter_map, cons_option, prefix_len, nat_tests, bytes_eq, pointwise, bytes_eq-Decides, slice_get_within, get_or_from_slice_get, list_any_at, cases_lt, Terminal, Nonterminal, HasDistinctProductions, Word, plain, Statement, Line, Nothing, Production, Rule, Start, Fold, Bad, ProductionLine, as_production, productions, nonterminals, is_among, number_of, rule_names, symbol_of, production_of, grammar_of, AreFaultless, early_fault, has_production, is_production, has_rule, or_else, cause_if, reserved, Cause, DefinedTwice, or_parts}
 use Rattle.grammar.proofs.Lefts.{bytes_eq_same}
 
 pub same_bytes : (v w : Word) → bytes_eq v w ≡ true → v ≡ w
@@ -74,12 +73,11 @@ AllNamed ns rs (w ∷ ws) = IsNamed ns rs w × AllNamed ns rs ws
 
 symbols_show : (ns rs vs ws : List Word) → AllNamed ns rs vs → AllNamed ns rs ws → map (symbol_of ns rs) vs ≡ map (symbol_of ns rs) ws → vs ≡ ws
 symbols_show ns rs [] [] a b e = refl
-symbols_show ns rs [] (w ∷ ws) a b e = cc
-symbols_show ns rs (v ∷ vs) [] a b e = cc
 symbols_show ns rs (v ∷ vs) (w ∷ ws) a b e =
     let first : symbol_of ns rs v ≡ symbol_of ns rs w = cc in
     let rest : map (symbol_of ns rs) vs ≡ map (symbol_of ns rs) ws = cc in
     ap (λ x. x ∷ vs) (symbol_shows ns rs v w a.0 b.0 first) ∙ ap (λ xs. w ∷ xs) (symbols_show ns rs vs ws a.1 b.1 rest)
+symbols_show ns rs vs ws a b e = cc
 
 pub true_not_false : true ≡ false → ⊥
 true_not_false e = cc

@@ -1,6 +1,5 @@
 -- The numbers of a file's names are in range.
-use Rattle.std.proofs.Common.{◌≡◌, inl, inr, ℕ, zero, suc, ◌<◌, ◌≤◌, Bool, true, false, ◌&&◌, ◌||◌, List, [], ◌∷◌, ◌++◌, refl, ap, sym, ◌∙◌, length, arith, subst, if◌then◌else◌, not, nat_lt, Some, None, map, slice_get, slice_index_or, All, chars}
-use Rattle.grammar.proofs.Common.{list_any, fold, bytes_eq, list_any-append, Symbol, Nonterminal, length-map, All-nil, All-cons, Expression, HasProduction, IsProductive, FileGrammar, IsUsable, IsKnown, IsGrammar, AreBelow, grammar_with, ArePatterns, Word, plain, Statement, Line, Nothing, Production, Rule, Start, Fold, Bad, RuleLine, ProductionLine, as_production, as_start, productions, starts, nonterminals, with_name, is_among, number_of, first_of, rule_names, symbol_of, production_of, is_fold, grammar_of, HaveReferents, symbol_fault, right_fault, reference_fault, NotANonterminal, is_skip_rule, has_rule, list_any-map, not-false, or-true, or_parts, rules}
+use Rattle.grammar.proofs.Common.{◌≡◌, inl, inr, ℕ, zero, suc, ◌<◌, ◌≤◌, Bool, true, false, ◌&&◌, ◌||◌, List, [], ◌∷◌, ◌++◌, refl, ap, sym, ◌∙◌, length, arith, subst, if◌then◌else◌, not, nat_lt, Some, None, map, slice_get, slice_index_or, All, chars, list_any, fold, bytes_eq, list_any-append, Symbol, Nonterminal, length-map, All-nil, All-cons, Expression, HasProduction, IsProductive, FileGrammar, IsUsable, IsKnown, IsGrammar, AreBelow, grammar_with, ArePatterns, Word, plain, Statement, Line, Nothing, Production, Rule, Start, Fold, Bad, RuleLine, ProductionLine, as_production, as_start, productions, starts, nonterminals, with_name, is_among, number_of, first_of, rule_names, symbol_of, production_of, is_fold, grammar_of, HaveReferents, symbol_fault, right_fault, reference_fault, NotANonterminal, is_skip_rule, has_rule, list_any-map, not-false, or-true, or_parts, rules}
 use Rattle.grammar.proofs.Lefts.{bytes_eq_same}
 use Rattle.grammar.proofs.Numbered.{AllNamed, AreNamed, AreOnce, comes_from, says_production, not_shown, number_below, number_at, nonterminal_is, terminal_is, IsMadeFrom, made_from, distinct}
 
@@ -126,9 +125,8 @@ module _ (ss : List Statement) (es : List Expression) (symbols : List Symbol) wh
 
   patterns_long : (rs : List RuleLine) (xs : List Expression) → ArePatterns rs xs → length xs ≡ length rs
   patterns_long [] [] h = refl
-  patterns_long [] (x ∷ xs) h = absurd h
-  patterns_long (r ∷ rs) [] h = absurd h
   patterns_long (r ∷ rs) (x ∷ xs) h = ap suc (patterns_long rs xs h.1)
+  patterns_long rs xs h = absurd h
 
   many_rules : length f.names ≡ length (rules ss)
   many_rules = length-map (rule_names ss) chars ∙ length-map (rules ss) (λ r. r.name)

@@ -1,7 +1,5 @@
 -- What marks at used nonterminals mean.
-use Rattle.std.proofs.Common.{◌≡◌, inl, inr, ℕ, zero, suc, ◌+◌, ◌<◌, Bool, true, false, ◌&&◌, List, [], ◌∷◌, ◌++◌, refl, ap, sym, ◌∙◌, length, take, drop, get_or, set, replicate, subst, Some, slice_get, slice_index_or}
-use Rattle.grammar.proofs.Common.{take_more, get_or-set_other, get_or-set_at, Symbol, Nonterminal, Grammar, IsUsed, The_start, On_right, is_marked, are_marked, IsSpread, IsReached, AreWithin, AreOnlyUsed, AreAllUsed, push_at, and_parts}
-use Rattle.definitions.specs.Trees.{Production}
+use Rattle.grammar.proofs.Common.{◌≡◌, inl, inr, ℕ, zero, suc, ◌+◌, ◌<◌, Bool, true, false, List, [], ◌∷◌, ◌++◌, refl, ap, sym, ◌∙◌, length, take, drop, get_or, set, replicate, subst, Some, slice_get, slice_index_or, take_more, get_or-set_other, get_or-set_at, Symbol, Nonterminal, Grammar, IsUsed, The_start, On_right, is_marked, are_marked, IsSpread, IsReached, AreWithin, AreOnlyUsed, AreAllUsed, push_at, and_parts, Production' as Production}
 use Rattle.grammar.proofs.NonterminalMarks.{same_or_not}
 
 pub spread_more : (ps : List Production) (marks : List Bool) (i : ℕ) (x : Production) → i < length ps → x ≡ get_or ps i x → IsSpread (take i ps) marks
@@ -66,7 +64,4 @@ start_used start count ps within g m begins same marked =
 
 pub still_marked : (marks : List Bool) (n m : ℕ) → n < length marks → slice_index_or marks m false ≡ true → slice_index_or (set marks n true) m false ≡ true
 still_marked marks n m within marked =
-    elim (same_or_not m n) [
-      | inl e ↦ get_or-set_at marks n m true false e within
-      | inr other ↦ get_or-set_other marks n m true false other ∙ marked
-    ]
+    elim (same_or_not m n) [ inl e ↦ get_or-set_at marks n m true false e within | inr other ↦ get_or-set_other marks n m true false other ∙ marked ]

@@ -1,6 +1,5 @@
 -- What the statements of a file define with the productions of its marked words.
-use Rattle.std.proofs.Common.{◌≡◌, ◌⊎◌, inl, inr, ℕ, zero, suc, ◌+◌, ◌*◌, ◌≤◌, Bool, true, false, ◌&&◌, ◌||◌, List, [], ◌∷◌, ◌++◌, refl, ap, sym, ◌∙◌, length, arith, subst, if◌then◌else◌, append-nil, length-append, Some, None, map, drop, slice_get}
-use Rattle.grammar.proofs.Common.{filter, nat_lt, unwrap_or, codes, list_any, list_all, fold, flat_map, enumerate_from, bytes_eq, lines, map-append, filter_map-append, fold-append, list_any-append, Version, One, Mark, Once, Any, AtLeastOnce, AtMostOnce, Word, words, is_name, after_equals, mark_of, is_mark, without_last, plain, Line, Nothing, Production, Rule, Start, Fold, Bad, Statement, at, numbered, is_comment, is_right_word, production, rule, statement, longer_line, line_of_words, line_of, statements_in, version_of, statements, ProductionLine, as_rule, as_production, as_start, productions, starts, nonterminals, is_among, with_name, right_sides, added, marked, written_out, AreFaultless, HaveReferents, symbol_fault, right_fault, is_skip_rule, AreFew, name_unmarked, first_of, both_ways, or_cases, or_left, or_parts, or_right, rules}
+use Rattle.grammar.proofs.Common.{◌≡◌, ◌⊎◌, inl, inr, ℕ, zero, suc, ◌+◌, ◌*◌, ◌≤◌, Bool, true, false, ◌&&◌, ◌||◌, List, [], ◌∷◌, ◌++◌, refl, ap, sym, ◌∙◌, length, arith, subst, if◌then◌else◌, append-nil, length-append, Some, None, map, drop, slice_get, filter, nat_lt, unwrap_or, codes, list_any, list_all, fold, flat_map, enumerate_from, bytes_eq, lines, map-append, filter_map-append, fold-append, list_any-append, Version, One, Mark, Once, Any, AtLeastOnce, AtMostOnce, Word, words, is_name, after_equals, mark_of, is_mark, without_last, plain, Line, Nothing, Production, Rule, Start, Fold, Bad, Statement, at, numbered, is_comment, is_right_word, production, rule, statement, longer_line, line_of_words, line_of, statements_in, version_of, statements, ProductionLine, as_rule, as_production, as_start, productions, starts, nonterminals, is_among, with_name, right_sides, added, marked, written_out, AreFaultless, HaveReferents, symbol_fault, right_fault, is_skip_rule, AreFew, name_unmarked, first_of, both_ways, or_cases, or_left, or_parts, or_right, rules}
 use Rattle.grammar_line.specs.Words.{is_marked}
 use Rattle.grammar.proofs.Lefts.{bytes_eq_same, among_fold}
 use Rattle.grammar.proofs.Numbered.{same_bytes, neither, comes_from, says_production, one_line, AreOnce, some_same}
@@ -80,9 +79,7 @@ words_count names (w ∷ ws) =
 
 two_sides : (m : Mark) (w x : Word) → length (right_sides m w x) ≤ 2
 two_sides Once w x = omega arith
-two_sides Any w x = omega arith
-two_sides AtLeastOnce w x = omega arith
-two_sides AtMostOnce w x = omega arith
+two_sides m w x = omega arith
 
 length-lines : (w : Word) (rights : List (List Word)) → length (lines_for w rights) ≡ length rights
 length-lines w [] = refl
@@ -220,10 +217,7 @@ module _ (ss : List Statement) (refers : HaveReferents ss ss) where
   free_in w [] free h = cc
   free_in w (v ∷ vs) free h =
       let two = neither (symbol_fault ss (plain v)) (right_fault ss (map plain vs)) free in
-      elim (or_cases (bytes_eq v w) (is_among w vs) h) [
-        | inl e ↦ subst (λ u. symbol_fault ss (plain u) ≡ None) (same_bytes v w e) two.0
-        | inr t ↦ free_in w vs two.1 t
-      ]
+      elim (or_cases (bytes_eq v w) (is_among w vs) h) [ inl e ↦ subst (λ u. symbol_fault ss (plain u) ≡ None) (same_bytes v w e) two.0 | inr t ↦ free_in w vs two.1 t ]
 
   free_among : (w : Word) (ps : List ProductionLine) → ((p : ℕ) (x : ProductionLine) → slice_get ps p ≡ Some x → right_fault ss (map plain x.right) ≡ None)
       → is_among w (flat_map (λ y. y.right) ps) ≡ true → symbol_fault ss (plain w) ≡ None
@@ -237,13 +231,11 @@ module _ (ss : List Statement) (refers : HaveReferents ss ss) where
   fine_sides : (m : Mark) (w x : Word) → IsFine all w → IsFine all x → (p : ℕ) (y : ProductionLine) → slice_get (lines_for w (right_sides m w x)) p ≡ Some y → AllFine all y.right
   fine_sides Once w x a b p y e = cc
   fine_sides Any w x a b (suc zero) y e = subst (λ (z : ProductionLine). AllFine all z.right) (some_same _ y e) (a, (b, tt))
-  fine_sides Any w x a b (suc (suc p)) y e = cc
   fine_sides AtLeastOnce w x a b zero y e = subst (λ (z : ProductionLine). AllFine all z.right) (some_same _ y e) (b, tt)
   fine_sides AtLeastOnce w x a b (suc zero) y e = subst (λ (z : ProductionLine). AllFine all z.right) (some_same _ y e) (a, (b, tt))
-  fine_sides AtLeastOnce w x a b (suc (suc p)) y e = cc
   fine_sides AtMostOnce w x a b (suc zero) y e = subst (λ (z : ProductionLine). AllFine all z.right) (some_same _ y e) (b, tt)
-  fine_sides AtMostOnce w x a b (suc (suc p)) y e = cc
   fine_sides d w x a b zero y e = subst (λ (z : ProductionLine). AllFine all z.right) (some_same _ y e) tt
+  fine_sides m w x a b p y e = cc
 
   fine_added : (ws : List Word) → ((w : Word) → is_among w ws ≡ true → is_among w (marked ss) ≡ true) → (p : ℕ) (y : ProductionLine)
       → slice_get (flat_map added_lines ws) p ≡ Some y → AllFine all y.right
@@ -266,15 +258,10 @@ module _ (ss : List Statement) (refers : HaveReferents ss ss) where
 
 short_sides : (m : Mark) (w x : Word) (p : ℕ) (y : ProductionLine) → slice_get (lines_for w (right_sides m w x)) p ≡ Some y → length y.right ≤ 16
 short_sides Once w x p y e = cc
-short_sides Any w x zero y e = let is = ap (λ (z : ProductionLine). length z.right) (some_same _ y e) in omega (arith, is)
-short_sides Any w x (suc zero) y e = let is = ap (λ (z : ProductionLine). length z.right) (some_same _ y e) in omega (arith, is)
 short_sides Any w x (suc (suc p)) y e = cc
-short_sides AtLeastOnce w x zero y e = let is = ap (λ (z : ProductionLine). length z.right) (some_same _ y e) in omega (arith, is)
-short_sides AtLeastOnce w x (suc zero) y e = let is = ap (λ (z : ProductionLine). length z.right) (some_same _ y e) in omega (arith, is)
 short_sides AtLeastOnce w x (suc (suc p)) y e = cc
-short_sides AtMostOnce w x zero y e = let is = ap (λ (z : ProductionLine). length z.right) (some_same _ y e) in omega (arith, is)
-short_sides AtMostOnce w x (suc zero) y e = let is = ap (λ (z : ProductionLine). length z.right) (some_same _ y e) in omega (arith, is)
 short_sides AtMostOnce w x (suc (suc p)) y e = cc
+short_sides m w x p y e = let is = ap (λ (z : ProductionLine). length z.right) (some_same _ y e) in omega (arith, is)
 
 short_added : (ws : List Word) (p : ℕ) (y : ProductionLine) → slice_get (flat_map added_lines ws) p ≡ Some y → length y.right ≤ 16
 short_added [] p y e = cc
@@ -339,11 +326,9 @@ left_of_added (w ∷ ws) p y e = elim (met_in (added_lines w) (flat_map added_li
 two_ways : (w : Word) (r s : List Word) (p q : ℕ) (y : ProductionLine) → (r ≡ s → ⊥) → slice_get (lines_for w (r ∷ s ∷ [])) p ≡ Some y → slice_get (lines_for w (r ∷ s ∷ [])) q ≡ Some y → p ≡ q
 two_ways w r s zero zero y different a b = refl
 two_ways w r s zero (suc zero) y different a b = absurd (different (ap (λ (z : ProductionLine). z.right) (some_same _ y a) ∙ sym (ap (λ (z : ProductionLine). z.right) (some_same _ y b))))
-two_ways w r s zero (suc (suc q)) y different a b = cc
 two_ways w r s (suc zero) zero y different a b = absurd (different (ap (λ (z : ProductionLine). z.right) (some_same _ y b) ∙ sym (ap (λ (z : ProductionLine). z.right) (some_same _ y a))))
 two_ways w r s (suc zero) (suc zero) y different a b = refl
-two_ways w r s (suc zero) (suc (suc q)) y different a b = cc
-two_ways w r s (suc (suc p)) q y different a b = cc
+two_ways w r s p q y different a b = cc
 
 once_sides : (m : Mark) (w x : Word) (p q : ℕ) (y : ProductionLine) → slice_get (lines_for w (right_sides m w x)) p ≡ Some y → slice_get (lines_for w (right_sides m w x)) q ≡ Some y → p ≡ q
 once_sides Once w x p q y a b = cc

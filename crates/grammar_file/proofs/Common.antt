@@ -1,4 +1,5 @@
 -- What the proofs of this crate cite of definitions, of types and of other crates, passed on from one place. Declares nothing.
+pub use Rattle.std.proofs.Common.{◌&&◌, ◌*◌, ◌++◌, ◌+◌, ◌<◌, ◌||◌, ◌∙◌, ◌∷◌, ◌≡◌, ◌≢◌, ◌≤◌, Bool, Bor, Err, IfErr, IfOk, List, None, Ok, OnOk, Option, Result, Some, [], ap, append-nil, append_assoc, arith, drop, false, filter, get_or, if◌then◌else◌, inr, is_some, le-ltb, length, length-append, lt-ltb, map, nat_lt, option_map, refl, rules, slice_get, subst, suc, sym, take, take_all, true, true≢false, unwrap_or, zero, ℕ}
 pub use Rattle.std.specs.Prelude.{cond, not, position}
 pub use Rattle.std.specs.Cmp.Lexicographic.{bytes_decides, nat_list_eq_equiv, pointwise}
 pub use Rattle.std.specs.List.{cons_option, enumerate_from, filter_map, flat_map, fold, list_any, position_or_len, prefix_len}

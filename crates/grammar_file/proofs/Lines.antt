@@ -1,6 +1,5 @@
 -- What one more line makes of the contents.
-use Rattle.std.proofs.Common.{◌≡◌, ℕ, ◌≤◌, Bool, true, false, List, [], ◌∷◌, ◌++◌, refl, ap, ◌∙◌, sym, length, arith, subst, length-append, append_assoc, inr, take, append-nil, Option, Some, None, map, filter, nat_lt, slice_get, ◌+◌, ◌*◌}
-use Rattle.grammar_file.proofs.Common.{fold, cons_option, flat_map, list_any, chars, common_steps, flat_map-append, File, map-append, take-append-le, fold-append, slice_get_within, IsPattern, Names, filter-append, filter_map-append, Expression, Line, Nothing, Production, Rule, Start, Fold, Bad, Statement, at, Symbol, Word, is_marked, with_marked, marked, Cause, is_skip_rule, HasPattern, early_fault, line_limit, limit_fault, late_fault, nonterminal_count, production_count, exceeded_limit, cause_if, or_else, IsFaultless, AreFaultless, IsLineFault, are_among, with_rule, with_skip, with_left, with_right, with_sides, with_production, with_start, AreNames, ArePatterns, IsPatternOf, with_pattern, AreFew, IsRead, lines_view}
+use Rattle.grammar_file.proofs.Common.{◌≡◌, ℕ, ◌≤◌, Bool, true, false, List, [], ◌∷◌, ◌++◌, refl, ap, ◌∙◌, sym, length, arith, subst, length-append, append_assoc, inr, take, append-nil, Option, Some, None, map, filter, nat_lt, slice_get, ◌+◌, ◌*◌, fold, cons_option, flat_map, list_any, chars, common_steps, flat_map-append, File, map-append, take-append-le, fold-append, slice_get_within, IsPattern, Names, filter-append, filter_map-append, Expression, Line, Nothing, Production, Rule, Start, Fold, Bad, Statement, at, Symbol, Word, is_marked, with_marked, marked, Cause, is_skip_rule, HasPattern, early_fault, line_limit, limit_fault, late_fault, nonterminal_count, production_count, exceeded_limit, cause_if, or_else, IsFaultless, AreFaultless, IsLineFault, are_among, with_rule, with_skip, with_left, with_right, with_sides, with_production, with_start, AreNames, ArePatterns, IsPatternOf, with_pattern, AreFew, IsRead, lines_view}
 use Rattle.grammar_file.proofs.OneMoreItem.{push_at, take-all, cons_option-append}
 use Rattle.grammar_file.proofs.Sets.{skips-step, sides-step}
 use Rattle.grammar_file.specs.Contents as of
@@ -107,19 +106,14 @@ names-step names names' ss n l are rs ks ns ms bs ps st = record {
 
 pub patterns-step : (rs : List of.RuleLine) (es : List Expression) (r : of.RuleLine) (e : Expression) → ArePatterns rs es → IsPattern (chars r.pattern) e → ArePatterns (rs ++ r ∷ []) (es ++ e ∷ [])
 patterns-step [] [] r e are is = (is, tt)
-patterns-step [] (d ∷ es) r e are is = absurd are
-patterns-step (q ∷ rs) [] r e are is = absurd are
 patterns-step (q ∷ rs) (d ∷ es) r e are is = (are.0, patterns-step rs es r e are.1 is)
+patterns-step rs es r e are is = absurd are
 
 pub all_patterns-step : (rs : List of.RuleLine) (es : List Expression) (l : Line) (p : Option Expression) → ArePatterns rs es → IsPatternOf l p → ArePatterns (with_rule rs l) (with_pattern es p)
-all_patterns-step rs es Nothing (Some e) are is = absurd (cc)
-all_patterns-step rs es (Production left right) (Some e) are is = absurd (cc)
 all_patterns-step rs es (Rule skip name pattern) None are is = absurd is
 all_patterns-step rs es (Rule skip name pattern) (Some e) are is = patterns-step rs es (record { skip = skip; name = name; pattern = pattern }) e are is
-all_patterns-step rs es (Start name) (Some e) are is = absurd (cc)
-all_patterns-step rs es (Fold name) (Some e) are is = absurd (cc)
-all_patterns-step rs es Bad (Some e) are is = absurd (cc)
 all_patterns-step rs es d None are is = are
+all_patterns-step rs es l (Some e) are is = absurd (cc)
 
 pub faultless-step : (ss : List Statement) (n : ℕ) (l : Line) → AreFaultless ss → IsFaultless ss l → AreFaultless (ss ++ at n l ∷ [])
 faultless-step ss n l before is k s found =

@@ -1,6 +1,5 @@
 -- Sets that are lists, each of whose items is there once.
-use Rattle.std.proofs.Common.{◌≡◌, ℕ, Bool, true, false, List, [], ◌∷◌, ◌++◌, refl, ap, sym, ◌∙◌, ◌||◌, ◌&&◌, if◌then◌else◌, map, Bor}
-use Rattle.grammar_file.proofs.Common.{list_any, bytes_eq, pointwise, bytes_decides, list_any-append, map-append, Word, RuleLine, is_among, is_production, is_skip_rule, has_production, texts, are_among, with_names, with_rule, with_skip, with_sides, Line, Nothing, Production, Rule, Start, Fold, Bad, Statement, at, and_parts, or-true}
+use Rattle.grammar_file.proofs.Common.{◌≡◌, ℕ, Bool, true, false, List, [], ◌∷◌, ◌++◌, refl, ap, sym, ◌∙◌, ◌||◌, ◌&&◌, if◌then◌else◌, map, Bor, list_any, bytes_eq, pointwise, bytes_decides, list_any-append, map-append, Word, RuleLine, is_among, is_production, is_skip_rule, has_production, texts, are_among, with_names, with_rule, with_skip, with_sides, Line, Production, Rule, Statement, at, and_parts, or-true}
 use Rattle.grammar_file.proofs.NameLookUps.{turned}
 use Rattle.grammar_file.proofs.TestedItems.{pointwise-map}
 
@@ -21,9 +20,8 @@ any-with eq same xs v w = go (list_any (λ x. eq x v) xs) refl (eq v w) refl
 
 same_words : (vs ws : List Word) → pointwise bytes_eq vs ws ≡ true → vs ≡ ws
 same_words [] [] h = refl
-same_words [] (w ∷ ws) h = absurd (cc)
-same_words (v ∷ vs) [] h = absurd (cc)
 same_words (v ∷ vs) (w ∷ ws) h = let two = and_parts (bytes_eq v w) (pointwise bytes_eq vs ws) h in λ i. (bytes_decides v w).0 two.0 i ∷ same_words vs ws two.1 i
+same_words vs ws h = absurd (cc)
 
 turned_words : (vs ws : List Word) → pointwise bytes_eq vs ws ≡ pointwise bytes_eq ws vs
 turned_words [] [] = refl

@@ -1,6 +1,5 @@
 -- A list of lines, cut at one of them.
-use Rattle.std.proofs.Common.{◌≡◌, ◌≢◌, ℕ, suc, ◌+◌, ◌<◌, List, [], ◌∷◌, ◌++◌, refl, ap, sym, ◌∙◌, length, take, drop, get_or, arith, append_assoc, Bor, subst, Option, Some, None, map, option_map}
-use Rattle.grammar_file.proofs.Common.{filter_map, cons_option, enumerate_from, map-append, take_more, take-append-drop, length-take-le, Version, Numbered, Statement, Line, Nothing, Production, Rule, Start, Fold, Bad, at, line_of, numbered, statements_in, filter_map-append, ProductionLine, productions, as_production, Cause, HaveReferents, reference_fault, IsLineFault, IsFirstLineFault, IsFirstReferenceFault, texts, statement_of, lines_view, IsRead, File}
+use Rattle.grammar_file.proofs.Common.{◌≡◌, ◌≢◌, ℕ, suc, ◌+◌, ◌<◌, List, [], ◌∷◌, ◌++◌, refl, ap, sym, ◌∙◌, length, take, drop, get_or, arith, append_assoc, Bor, subst, Option, Some, None, map, option_map, filter_map, cons_option, enumerate_from, map-append, take_more, take-append-drop, length-take-le, Version, Numbered, Statement, Line, Nothing, at, line_of, numbered, statements_in, filter_map-append, ProductionLine, productions, as_production, Cause, HaveReferents, reference_fault, IsLineFault, IsFirstLineFault, IsFirstReferenceFault, texts, statement_of, lines_view, IsRead, File}
 use Rattle.grammar_file.proofs.OneMoreItem.{push_at, cons_option-append}
 
 numbered-split : {Y : Type 0} (h : (ℕ × List ℕ) → Option Y) (xs : List (List ℕ)) (y : List ℕ) (zs : List (List ℕ)) (n m : ℕ) → m ≡ n + length xs
@@ -87,13 +86,7 @@ first_line_fault v f lines i d l c within before is says fault =
     let some : numbered (i + 2) (line_of v (get_or lines i d).now) ≡ Some (at (i + 2) l) = ap (λ k. numbered (i + 2) k) (sym is) ∙ numbered-some (i + 2) l says in (
       prefix,
       split.0,
-      (
-        at (i + 2) l,
-        split.1 ∙ ap (λ o. prefix ++ cons_option o split.0) some,
-        refl,
-        before.faultless,
-        subst (λ (ss : List Statement). IsLineFault ss l c) before.statements fault,
-      ),
+      (at (i + 2) l, split.1 ∙ ap (λ o. prefix ++ cons_option o split.0) some, refl, before.faultless, subst (λ (ss : List Statement). IsLineFault ss l c) before.statements fault),
     )
 
 made_of : {X Y : Type 0} (f : X → Y) (o : Option X) → map f (cons_option o []) ≡ cons_option (option_map f o) []

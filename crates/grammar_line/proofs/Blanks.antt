@@ -1,11 +1,5 @@
 -- Blanks at the ends of a text, as std's calls cut them off.
-use Rattle.std.proofs.Common.{◌≡◌, ◌≢◌, ◌<◌, ℕ, ◌-◌, Bool, true, false, List, [], ◌∷◌, ◌++◌, length, take, drop, refl, sym, ap, ◌∙◌, arith, ⊎_elim, ◌⊎◌, Option, Some, None, IfSome}
-use Rattle.std.specs.Char.{char_set_contains, encode_utf8, len_utf8}
-use Rattle.std.specs.Str.Pattern.{FindsPrefixBy, FindsSuffixBy, HasPassingCharAt, CutsPrefixes, CutsSuffixes, IsTrimStartMatches, IsTrimEndMatches}
-use Rattle.std.proofs.lemmas.Bool.{false≢true}
-use Rattle.std.proofs.lemmas.Grind.{common_steps}
-use Rattle.std.proofs.lemmas.List.{take-append-drop, drop_all, append-nil}
-use Rattle.grammar_line.specs.Words.{is_blank, trim_start, trim_end, or_nothing}
+use Rattle.grammar_line.proofs.Common.{◌≡◌, ◌≢◌, ◌<◌, ℕ, ◌-◌, Bool, true, false, List, [], ◌∷◌, ◌++◌, length, take, drop, refl, sym, ap, ◌∙◌, arith, ⊎_elim, ◌⊎◌, Option, Some, None, IfSome, char_set_contains, encode_utf8, len_utf8, FindsPrefixBy, FindsSuffixBy, HasPassingCharAt, CutsPrefixes, CutsSuffixes, IsTrimStartMatches, IsTrimEndMatches, false≢true, common_steps, take-append-drop, drop_all, append-nil, is_blank, trim_start, trim_end, or_nothing}
 
 abbrev is_listed : ℕ → Bool
 is_listed = char_set_contains (32 ∷ 9 ∷ [])

@@ -1,4 +1,5 @@
 -- What the proofs of this crate cite of definitions, of types and of other crates, passed on from one place. Declares nothing.
+pub use Rattle.std.proofs.Common.{◌&&◌, ◌++◌, ◌+◌, ◌-◌, ◌<◌, ◌↔◌, ◌∙◌, ◌∷◌, ◌≡◌, ◌≤◌, ◌⊎◌, All, Bool, Contains, Global, IfSome, IsTrue, List, None, Option, Some, Vec, [], ap, append_assoc, arith, drop, false, get_or-set_other, get_or-set_same, if◌then◌else◌, inl, inr, length, length-append, length-set, map, refl, reverse, rules, slice_get, slice_index_or, slice_set, subst, suc, sym, take, true, zero, ℕ, ⊎_elim}
 pub use Rattle.std.specs.Bool.{Decides}
 pub use Rattle.std.specs.Cmp.Lexicographic.{pointwise}
 pub use Rattle.std.specs.List.{list_any, position}

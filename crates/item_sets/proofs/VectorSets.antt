@@ -1,13 +1,10 @@
 -- A list of vectors that is kept as a set.
-use Rattle.std.proofs.Common.{◌≡◌, ◌<◌, ◌⊎◌, ◌&&◌, ℕ, Bool, true, false, List, [], ◌∷◌, ◌++◌, Option, Some, None, Vec, length, slice_index_or, slice_get, refl, sym, ap, ◌∙◌, inl, inr, map, arith, if◌then◌else◌}
-use Rattle.item_sets.proofs.Common.{Decides, option_eq, eqb, Decides-and, Decides-eqb, list_any, position, pointwise, slice_eq-Decides, get_or-map, map-append, length-map, list_any_at, position-Some, get_or_from_slice_get, ghosts, Item, IsAbsent}
-use Rattle.std.proofs.Common.{Global}
+use Rattle.item_sets.proofs.Common.{◌≡◌, ◌<◌, ◌⊎◌, ◌&&◌, ℕ, Bool, true, false, List, [], ◌∷◌, ◌++◌, Option, Some, None, Vec, length, slice_index_or, slice_get, refl, sym, ap, ◌∙◌, inl, inr, map, arith, if◌then◌else◌, Decides, option_eq, eqb, Decides-and, Decides-eqb, list_any, position, pointwise, slice_eq-Decides, get_or-map, map-append, length-map, list_any_at, position-Some, get_or_from_slice_get, ghosts, Item, IsAbsent, Global}
 
 option_same : (x y : Option ℕ) → Decides (option_eq eqb x y) (x ≡ y)
 option_same None None = (λ e. refl, λ e. refl)
-option_same None (Some b) = (λ e. absurd (cc e), λ e. absurd (cc e))
-option_same (Some a) None = (λ e. absurd (cc e), λ e. absurd (cc e))
 option_same (Some a) (Some b) = (λ e. ap (λ n. Some n) ((Decides-eqb a b).0 e), λ e. let k : a ≡ b = cc e in (Decides-eqb a b).1 k)
+option_same x y = (λ e. absurd (cc e), λ e. absurd (cc e))
 
 item_same : (a b : Item) → Decides (ghosts.eq a b) (a ≡ b)
 item_same a b =

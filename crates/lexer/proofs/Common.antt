@@ -1,4 +1,5 @@
 -- What the proofs of this crate cite of definitions, of types and of other crates, passed on from one place. Declares nothing.
+pub use Rattle.std.proofs.Common.{◌++◌, ◌+◌, ◌-◌, ◌<◌, ◌==◌, ◌^◌, ◌∙◌, ◌∷◌, ◌≡◌, ◌≢◌, ◌≤◌, ◌⊎◌, All, Bool, IfSome, IsSomeAnd, IsTrue, List, MatchOption, None, Option, Some, [], ap, arith, cond, count_by, drop, false, filter, if◌then◌else◌, inl, inr, length, length-append, length-drop, map, max, min, nat_eq, nat_le, nat_lt, not, option_copied, refl, rules, slice_get, slice_index, slice_index_or, slice_range, subst, suc, sym, take, true, vec_len, zero, ℕ}
 pub use Rattle.std.specs.Iterator.{YieldsFirst}
 pub use Rattle.std.specs.List.{prefix_len}
 pub use mathlib.Core.List.{head-eq_of_cons-eq, tail-eq_of_cons-eq}

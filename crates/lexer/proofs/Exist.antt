@@ -1,7 +1,5 @@
 -- Where there is an automaton of the rules, every text has tokens: the run of the automaton finds the next one.
-use Rattle.std.proofs.Common.{arith, refl, inl, inr, length-drop, ◌≡◌, ℕ, zero, suc, ◌+◌, ◌<◌, ◌≤◌, ◌⊎◌, min, List, [], ◌∷◌, length, take, drop, slice_index, slice_index_or, Option, Some, None}
-use Rattle.lexer.proofs.Common.{All-drop, All-take, Expression, Kind, Rule, Invalid, IsCharacter, IsText, IsRulePrefix, IsPiece, IsToken, AreTokens, Table, follower, state_after, IsAutomaton, kind_of, IsBest, Ends, best_none, best_more_none, best_more_some, prefixes_more, more_state, more_prefix, more_first, more_dead, piece_of, reach_of, state_after-none}
-use Rattle.definitions.specs.Tokens.{Token}
+use Rattle.lexer.proofs.Common.{arith, refl, inl, inr, length-drop, ◌≡◌, ℕ, zero, suc, ◌+◌, ◌<◌, ◌≤◌, ◌⊎◌, min, List, [], ◌∷◌, length, take, drop, slice_index, slice_index_or, Option, Some, None, All-drop, All-take, Expression, Kind, Rule, Invalid, IsCharacter, IsText, IsRulePrefix, IsPiece, IsToken, AreTokens, Table, follower, state_after, IsAutomaton, kind_of, IsBest, Ends, best_none, best_more_none, best_more_some, prefixes_more, more_state, more_prefix, more_first, more_dead, piece_of, reach_of, state_after-none, PlainToken as Token}
 
 module _ (rules : List Expression) (table : Table) (a : IsAutomaton rules table) where
   -- the run over the first n characters of t: its state, and the best of their prefixes
@@ -69,10 +67,7 @@ module _ (rules : List Expression) (table : Table) (a : IsAutomaton rules table)
   first_token t text some =
       let d = run t text (length t) 0 (omega arith) (begin t) in (
         record { kind = kind_of d.rule; length = d.count; reach = d.read + 1 },
-        record {
-          piece = piece_of rules t d.read d.rule d.count d.best d.ends d.inside some;
-          reach = reach_of rules t d.read d.prefixes d.ends;
-        },
+        record { piece = piece_of rules t d.read d.rule d.count d.best d.ends d.inside some; reach = reach_of rules t d.read d.prefixes d.ends },
       )
 
   nonempty : (t : List ℕ) (k : Kind) (n : ℕ) → IsPiece rules t k n → 1 ≤ n

@@ -1,6 +1,5 @@
 -- Characters of a list that pass a test, one after another.
-use Rattle.std.proofs.Common.{arith, sym, ap, subst, ◌∙◌, ◌≡◌, ℕ, zero, ◌+◌, ◌-◌, ◌<◌, ◌≤◌, All, List, length, length-drop, take, drop, slice_index_or}
-use Rattle.lexer.proofs.Common.{get_or-drop, All-more, All-nil}
+use Rattle.lexer.proofs.Common.{arith, sym, ap, subst, ◌∙◌, ◌≡◌, ℕ, zero, ◌+◌, ◌-◌, ◌<◌, ◌≤◌, All, List, length, length-drop, take, drop, slice_index_or, get_or-drop, All-more, All-nil}
 
 -- those from offset `i` to offset `end` pass
 pub record ArePassed (P : ℕ → Type 0) (t : List ℕ) (i end : ℕ) : Type 0 where
@@ -20,8 +19,4 @@ one_more_passed P t i end h lt p =
     let place : i + (end - i) ≡ end = omega arith in
     let at : slice_index_or t end 0 ≡ slice_index_or (drop i t) (end - i) 0 = ap (λ n. slice_index_or t n 0) (sym place) ∙ sym (get_or-drop i t (end - i) 0) in
     let e : end - i + 1 ≡ end + 1 - i = omega arith in
-    record {
-      after = omega arith;
-      inside = omega arith;
-      each = subst (λ (n : ℕ). All P (take n (drop i t))) e (All-more P (drop i t) (end - i) 0 many h.each (subst P at p));
-    }
+    record { after = omega arith; inside = omega arith; each = subst (λ (n : ℕ). All P (take n (drop i t))) e (All-more P (drop i t) (end - i) 0 many h.each (subst P at p)) }

@@ -1,6 +1,5 @@
 -- The kinds of the significant ones of a list of tokens.
-use Rattle.std.proofs.Common.{arith, refl, sym, ap, subst, ◌∙◌, slice_range, length-append, nat_eq, ◌≡◌, ℕ, zero, suc, ◌+◌, ◌-◌, ◌<◌, ◌≤◌, drop, Bool, true, false, List, [], ◌∷◌, ◌++◌, length, take, map, filter, count_by, slice_get, slice_index_or, Option, Some, None, All, if◌then◌else◌}
-use Rattle.lexer.proofs.Common.{append_assoc, drop_at, drop-take, length-map, map-append, take_at, take-append-drop, take-take, length-filter, tail-eq_of_cons-eq, head-eq_of_cons-eq, YieldsFirst, and_parts, eqb-true, Kind, Rule, Invalid, IsSpliced, same_kind, same_kinds, Token, kind_in, is_significant, kinds, is_skipped, All-head, All-tail, filter-append, significant_kinds, plain_all, change}
+use Rattle.lexer.proofs.Common.{arith, refl, sym, ap, subst, ◌∙◌, slice_range, length-append, nat_eq, ◌≡◌, ℕ, zero, suc, ◌+◌, ◌-◌, ◌<◌, ◌≤◌, drop, Bool, true, false, List, [], ◌∷◌, ◌++◌, length, take, map, filter, count_by, slice_get, slice_index_or, Option, Some, None, All, if◌then◌else◌, append_assoc, drop_at, drop-take, length-map, map-append, take_at, take-append-drop, take-take, length-filter, tail-eq_of_cons-eq, head-eq_of_cons-eq, YieldsFirst, and_parts, eqb-true, Kind, Rule, Invalid, IsSpliced, same_kind, same_kinds, Token, kind_in, is_significant, kinds, is_skipped, All-head, All-tail, filter-append, significant_kinds, plain_all, change}
 use Rattle.lexer.proofs.Totals.{count-cons}
 
 count_first : (s : Bool) (x : Token) (xs : List Token) → x.skipped ≡ s → count_by is_significant (x ∷ xs) ≡ (if s then 0 else 1) + count_by is_significant xs
@@ -85,13 +84,12 @@ one_kind a b h = cc
 -- lists that the test takes for the same are the same
 pub same_list : (one two : List Kind) → same_kinds one two ≡ true → one ≡ two
 same_list [] [] h = refl
-same_list [] (b ∷ two) h = cc
-same_list (a ∷ one) [] h = cc
 same_list (a ∷ one) (b ∷ two) h =
     let parts = and_parts _ _ h in
     let first : a ≡ b = one_kind a b parts.0 in
     let rest : one ≡ two = same_list one two parts.1 in
     λ i. first i ∷ rest i
+same_list one two h = cc
 
 -- the change of the kinds makes those of the new tokens
 module _ (xs made : List Token) (kept_before to : ℕ) (ordered : kept_before ≤ to) where

@@ -1,6 +1,5 @@
 -- A list read from its end.
-use Rattle.std.proofs.Common.{◌≡◌, ◌↔◌, ⊎_elim, IsSome, Option, Some, None, MatchOption, option_to_list, ℕ, ◌-◌, ◌<◌, ◌≤◌, suc, List, [], ◌∷◌, ◌++◌, length, take, drop, get_or, refl, sym, ap, ◌∙◌, arith, append_assoc, length-append, take-append-drop, length-drop}
-use Rattle.parser.proofs.Common.{append-nil, drop-append_seam, cases_lt, backwards}
+use Rattle.parser.proofs.Common.{◌≡◌, ◌↔◌, ⊎_elim, IsSome, Option, Some, None, MatchOption, option_to_list, ℕ, ◌-◌, ◌<◌, ◌≤◌, suc, List, [], ◌∷◌, ◌++◌, length, take, drop, get_or, refl, sym, ap, ◌∙◌, arith, append_assoc, length-append, take-append-drop, length-drop, append-nil, drop-append_seam, cases_lt, backwards}
 
 pub backwards-append : {A : Type 0} → (xs ys : List A) → backwards (xs ++ ys) ≡ backwards ys ++ backwards xs
 backwards-append [] ys = sym (append-nil (backwards ys))

@@ -1,6 +1,5 @@
 -- The old trees, with the new kinds between the parts that a splice leaves of them.
-use Rattle.std.proofs.Common.{◌≡◌, ◌≢◌, ◌⊎◌, ℕ, ◌+◌, ◌-◌, ◌<◌, ◌≤◌, List, [], ◌∷◌, ◌++◌, length, refl, sym, ap, ◌∙◌, subst, inl, inr, ⊎_elim, arith}
-use Rattle.parser.proofs.Common.{head-eq_of_cons-eq, tail-eq_of_cons-eq, cases_lt, append-nil, Kind, Tree, Forest, Leaf, Branch, yields, all_kinds, StandsIn, Top, Below, Past, place_of, Splice, IsKept, IsMoved, IsTouched, IsPrepared, nowhere, stands_after, stands_in_prefix, stands_split, stands_length, Child, Cell, plain_of, leaves, IsSplitAt}
+use Rattle.parser.proofs.Common.{◌≡◌, ◌≢◌, ◌⊎◌, ℕ, ◌+◌, ◌-◌, ◌<◌, ◌≤◌, List, [], ◌∷◌, ◌++◌, length, refl, sym, ap, ◌∙◌, subst, inl, inr, ⊎_elim, arith, head-eq_of_cons-eq, tail-eq_of_cons-eq, cases_lt, append-nil, Kind, Tree, Forest, Leaf, Branch, yields, all_kinds, StandsIn, Top, Below, Past, place_of, Splice, IsKept, IsMoved, IsTouched, IsPrepared, nowhere, stands_after, stands_in_prefix, stands_split, stands_length, Child, Cell, plain_of, leaves, IsSplitAt}
 use Rattle.parser.proofs.Running.{kinds_leaves}
 use Rattle.parser.proofs.WhereBranchesComeFrom.{place-append}
 use Rattle.parser.proofs.Cuts.{cut_from, cut_keeps, cut_kinds}
@@ -58,11 +57,7 @@ module _ (s : Splice) where
         })
         (λ b. absurd (no_branch ks b.1))
         (stands_split old (leaves ks) w);
-    all_old = λ place p us kept. (
-      kept.lefts,
-      stands_in_prefix (leaves ks) kept.stood,
-      ⊎_elim (λ a. sym a.1) (λ b. omega (arith, b.1, same, none)) kept.moved,
-    );
+    all_old = λ place p us kept. (kept.lefts, stands_in_prefix (leaves ks) kept.stood, ⊎_elim (λ a. sym a.1) (λ b. omega (arith, b.1, same, none)) kept.moved);
   }
 
   module _ (cells : List Cell) (ordered : s.from ≤ s.to) (changes : s.from ≡ s.to → length s.kinds ≢ 0) {old prefix back : List Child} (first : IsSplitAt cells s.from old prefix back) where
@@ -159,14 +154,7 @@ module _ (s : Splice) where
           let two = cut_keeps cells second b.0 t b.1 some (inr (omega (arith, there, le))) in
           ⊎_elim
           (λ a. absurd (omega (arith, stands_length a, fits, there, le, some, ap length two.2)))
-          (λ d. (
-            d.0,
-            d.1,
-            ⊎_elim
-                (λ m. absurd (omega (arith, m.0, le, ordered)))
-                (λ m. omega (arith, m.1, there, split_place gones d.0 two.0 b.0 two.2 d.2, gone_to d.1))
-                kept.moved,
-          ))
+          (λ d. (d.0, d.1, ⊎_elim (λ m. absurd (omega (arith, m.0, le, ordered))) (λ m. omega (arith, m.1, there, split_place gones d.0 two.0 b.0 two.2 d.2, gone_to d.1)) kept.moved))
           (stands_split gones rests two.1))
           (stands_split prefixes backs one.1)
 

@@ -1,7 +1,5 @@
 -- Children that are renamed mean what they meant.
-use Rattle.std.proofs.Common.{refl, sym, ap, ◌++◌, take, arith, ◌≡◌, ℕ, suc, ◌+◌, List, [], ◌∷◌, length}
-use Rattle.parser.proofs.Common.{take_at, head-eq_of_cons-eq, tail-eq_of_cons-eq, branches, StampedLeaf, plain, NodeId, Child, Token, Node, Cell, AreBelow, all_trees, tree, nodes, sizes, HasTree, Halt, Accepted, node_ids, renamed, verdict_in, verdict_of}
-use Rattle.parser.specs.declared.machine.Halt.TheVariants.{FaultAt, FaultAtEnd}
+use Rattle.parser.proofs.Common.{refl, sym, ap, ◌++◌, take, arith, ◌≡◌, ℕ, suc, ◌+◌, List, [], ◌∷◌, length, take_at, head-eq_of_cons-eq, tail-eq_of_cons-eq, branches, StampedLeaf, plain, NodeId, Child, Token, Node, Cell, AreBelow, all_trees, tree, nodes, sizes, HasTree, Halt, Accepted, node_ids, renamed, verdict_in, verdict_of}
 
 pub renamed_trees : (old new : List Cell) (cs : List Child) (names : List NodeId) → all_trees new (nodes names) ≡ all_trees old (nodes (node_ids cs))
     → all_trees new (renamed cs names) ≡ all_trees old cs
@@ -45,12 +43,9 @@ renamed_long (Node id ∷ cs) (name ∷ names) = ap suc (renamed_long cs names)
 -- the verdict over renamed trees is what it was
 pub verdict_stays : (old new : List Cell) (halt : Halt) (cs : List Child) (names : List NodeId) → all_trees new (renamed cs names) ≡ all_trees old cs
     → verdict_in new (verdict_of halt (renamed cs names)) ≡ verdict_in old (verdict_of halt cs)
-verdict_stays old new Accepted [] names e = refl
-verdict_stays old new Accepted (Token k ∷ cs) names e = refl
 verdict_stays old new Accepted (Node id ∷ cs) [] e = ap (λ t. HasTree (plain t)) (head-eq_of_cons-eq e)
 verdict_stays old new Accepted (Node id ∷ cs) (name ∷ names) e = ap (λ t. HasTree (plain t)) (head-eq_of_cons-eq e)
-verdict_stays old new (FaultAt k) cs names e = refl
-verdict_stays old new FaultAtEnd cs names e = refl
+verdict_stays old new halt cs names e = refl
 
 -- what was written back into a vector
 pub written : (new rest : List Child) (n : ℕ) → n ≡ length new → take n (new ++ rest) ≡ new

@@ -1,6 +1,5 @@
 -- The children that a splice leaves, with the new kinds between them, are an input for the kinds after the splice.
-use Rattle.std.proofs.Common.{◌≡◌, ◌≢◌, ◌⊎◌, ℕ, ◌+◌, ◌-◌, ◌<◌, ◌≤◌, List, [], ◌∷◌, ◌++◌, length, take, drop, map, refl, sym, ap, ◌∙◌, subst, inl, inr, ⊎_elim, arith, append_assoc, length-append, take-append-drop}
-use Rattle.parser.proofs.Common.{drop-append_seam, take-append_seam, take-append-add, cases_lt, append-nil, Kind, Grammar, Tree, Branch, Leaf, all_kinds, plain_all, plain_trees, StampedForest, StampedIn, StandsIn, place_of, Splice, spliced, IsPrepared, stamped_stands, stands_length, kinds-append, Child, Token, Cell, AreBelow, all_trees, trees_from, plain_of, AreParts, IsInput, before_leaves, input_of, leaves, MoveFrom, AreOlder, IsSplitAt}
+use Rattle.parser.proofs.Common.{◌≡◌, ◌≢◌, ◌⊎◌, ℕ, ◌+◌, ◌-◌, ◌<◌, ◌≤◌, List, [], ◌∷◌, ◌++◌, length, take, drop, map, refl, sym, ap, ◌∙◌, subst, inl, inr, ⊎_elim, arith, append_assoc, length-append, take-append-drop, drop-append_seam, take-append_seam, take-append-add, cases_lt, append-nil, Kind, Grammar, Tree, Branch, Leaf, all_kinds, plain_all, plain_trees, StampedForest, StampedIn, StandsIn, place_of, Splice, spliced, IsPrepared, stamped_stands, stands_length, kinds-append, Child, Token, Cell, AreBelow, all_trees, trees_from, plain_of, AreParts, IsInput, before_leaves, input_of, leaves, MoveFrom, AreOlder, IsSplitAt}
 use Rattle.parser.proofs.Running.{kinds_leaves}
 use Rattle.parser.proofs.LeftEdge.{parts-append}
 use Rattle.parser.proofs.Reductions.{below-append, plain-append}
@@ -160,11 +159,7 @@ module _ (cells : List Cell) (s : Splice) (ordered : s.from ≤ s.to) where
   pub replaced_input : (g : Grammar) {old new : List Child} → IsReplaced cells s old new → (ks : List Kind) → IsInput g cells old ks 0 → IsInput g cells new (spliced s ks) 0
   replaced_input g {old} {new} r ks h =
       let b = begins r ks (drop (0 + place_of (plain_of cells old)) ks) (covered (plain_of cells old) ks h.covers) in
-      record {
-        below = replaced_below (length cells) r h.below;
-        parts = replaced_parts g r h.parts;
-        covers = covers_prefix (plain_of cells new) (spliced s ks) b.0 b.1;
-      }
+      record { below = replaced_below (length cells) r h.below; parts = replaced_parts g r h.parts; covers = covers_prefix (plain_of cells new) (spliced s ks) b.0 b.1 }
 
 -- the trees that stay whole at the start, and what the first cut after them leaves
 module _ (cells : List Cell) (s : Splice) (old : List Child) (whole left missing : ℕ) (start prefix back : List Child) (at : place_of (plain_of cells (take whole old)) + left ≡ s.from)

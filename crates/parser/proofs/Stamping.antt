@@ -1,6 +1,5 @@
 -- The stamps that a run leaves: of the branches on its stack, those that it has made carry its number.
-use Rattle.std.proofs.Common.{◌≡◌, ◌↔◌, ◌⊎◌, ◌≤◌, ◌<◌, ℕ, List, [], ◌∷◌, ◌++◌, refl, sym, ap, ◌∙◌, subst, inl, inr, ⊎_elim, arith}
-use Rattle.parser.proofs.Common.{append-nil, head-eq_of_cons-eq, tail-eq_of_cons-eq, Kind, Grammar, Tree, Branch, trees, all_kinds, StandsIn, branches, all_branches, Stamped, StampedLeaf, StampedBranch, StampedForest, StampedNil, StampedCons, plain, plain_all, stamped_trees, plain_trees, StampedIn, StampedTop, StampedBelow, StampedPast, Take, CanReuse, Tries, Goes_on, Ends, Reuses, Takes_token, Makes, MakesAt, goes_on_join, join_makes, join_takes, not_both, stamped_stands, stands_branches, branches-trees, Child, tree_of, trees_of, forest_of, IsMadeBy, AreMadeBy, AreUpTo, AreStampedBy, AreOlder}
+use Rattle.parser.proofs.Common.{◌≡◌, ◌↔◌, ◌⊎◌, ◌≤◌, ℕ, List, [], ◌∷◌, ◌++◌, refl, sym, ap, ◌∙◌, subst, inl, inr, ⊎_elim, arith, append-nil, head-eq_of_cons-eq, tail-eq_of_cons-eq, Kind, Grammar, Tree, Branch, trees, all_kinds, StandsIn, branches, all_branches, Stamped, StampedLeaf, StampedBranch, StampedForest, StampedNil, StampedCons, plain, plain_all, stamped_trees, plain_trees, StampedIn, StampedTop, StampedBelow, StampedPast, Take, CanReuse, Tries, Goes_on, Ends, Reuses, Takes_token, Makes, MakesAt, goes_on_join, join_makes, join_takes, not_both, stamped_stands, stands_branches, branches-trees, Child, tree_of, trees_of, forest_of, IsMadeBy, AreMadeBy, AreUpTo, AreStampedBy, AreOlder}
 
 -- a stamped branch of two lists joined
 pub stamped_split : (one two : List Stamped) {lefts : List Tree} {p born : ℕ} {us : StampedForest} → StampedIn (one ++ two) lefts p born us
@@ -22,8 +21,7 @@ stamped_after (u ∷ one) w = StampedPast (stamped_after one w)
 
 pub nowhere_stamped : {l : List Stamped} {lefts : List Tree} {p born : ℕ} {us : StampedForest} → StampedIn l lefts p born us → l ≡ [] → ⊥
 nowhere_stamped StampedTop e = cc e
-nowhere_stamped (StampedBelow w) e = cc e
-nowhere_stamped (StampedPast w) e = cc e
+nowhere_stamped a e = cc e
 
 pub none_in_nothing : (n : ℕ) → AreOlder n []
 none_in_nothing n lefts p born us w = absurd (nowhere_stamped w refl)

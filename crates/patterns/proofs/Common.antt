@@ -1,4 +1,7 @@
 -- What the proofs of this crate cite of definitions, of types and of other crates, passed on from one place. Declares nothing.
+pub use Rattle.std.proofs.Common.{◌&&◌, ◌*◌, ◌++◌, ◌+◌, ◌-◌, ◌<◌, ◌==◌, ◌^◌, ◌||◌, ◌↔◌, ◌∙◌, ◌∷◌, ◌≡◌, ◌≢◌, ◌≤◌, ◌⊎◌, Bool, Err, IsTrue, List, None, Ok, Option, Result, Some, Vec, [], add-one, ap, append_assoc, arith, cond, drop, false, if◌then◌else◌, inl, inr, le_refl, length, length-append, lit<, lit≤, nat_le, nat_lt, not, refl, rules, subst, suc, sym, true, zero, ℕ}
+pub use Rattle.std.proofs.lemmas.Grind.{common_steps}
+pub use denote.RawPtr.{null_ptr}
 pub use Rattle.std.specs.List.{AllByRecursion, concat, list_all}
 pub use Rattle.std.specs.Result.{IfErr, IsErr, IsErrAnd}
 pub use Rattle.std.specs.Char.{digit_value}
@@ -28,4 +31,3 @@ pub use Rattle.patterns.specs.Sound.{is_range, is_sound}
 pub use Rattle.patterns.specs.declared.characters.Character.{Character}
 pub use Rattle.patterns.specs.declared.refusals.Refusal.{Refusal}
 pub use Rattle.patterns.specs.declared.refusals.Refusal.TheVariants.{Fault, Memory}
-pub use Rattle.std.proofs.lemmas.Grind.{common_steps}

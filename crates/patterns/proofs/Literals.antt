@@ -1,6 +1,5 @@
 -- Literals and classes that are read so far.
-use Rattle.std.proofs.Common.{◌≡◌, ◌≢◌, ◌⊎◌, inl, inr, ℕ, ◌==◌, Bool, true, false, List, [], ◌∷◌, ◌++◌, Some, refl, sym, ◌∙◌, ap, subst, append_assoc, arith}
-use Rattle.patterns.proofs.Common.{list_all, append-nil, list_all-append, nat_tests, Interval, Syntax, Written, Plain, Escaped, BadEscape, InLiteral, InClass, Items, First, Dash, Opened, fault_from, or_later, char_in_class, IsSign, IsLiteralChar, IsLiteralRest, IsClassChar, IsClassRest, IsLiteralPrefix, IsClassPrefix, IsItemPrefix, Begins, HasNoClassChar, place, place_of, HasNoLiteralChar, is_empty, IsCaret, IsClassBody, is_nothing, closed, EmptyClass, Outside, AnAtom}
+use Rattle.patterns.proofs.Common.{◌≡◌, ◌≢◌, ◌⊎◌, inl, inr, ℕ, ◌==◌, Bool, true, false, List, [], ◌∷◌, ◌++◌, Some, refl, sym, ◌∙◌, ap, subst, append_assoc, arith, list_all, append-nil, list_all-append, nat_tests, Interval, Syntax, Written, Plain, Escaped, BadEscape, InLiteral, InClass, Items, First, Dash, Opened, fault_from, or_later, char_in_class, IsSign, IsLiteralChar, IsLiteralRest, IsClassChar, IsClassRest, IsLiteralPrefix, IsClassPrefix, IsItemPrefix, Begins, HasNoClassChar, place, place_of, HasNoLiteralChar, is_empty, IsCaret, IsClassBody, is_nothing, closed, EmptyClass, Outside, AnAtom}
 
 -- what holds of a sign that is written as itself holds of each word that is that sign
 pub by_plain : (P : Written → Type 0) (c : ℕ) (w : Written) → ((o : ℕ) → P (Plain o c)) → IsSign c w → P w
@@ -50,10 +49,7 @@ by_sign : (P : ℕ → Type 0) (c : ℕ) → P 93 → P 45 → P 94 → (c ≢ 9
 by_sign P c closing dash caret other =
     elim (eq_or_not c 93) [
       | inl e ↦ subst P (sym e) closing
-      | inr not_93 ↦ elim (eq_or_not c 45) [
-        | inl e ↦ subst P (sym e) dash
-        | inr not_45 ↦ elim (eq_or_not c 94) [ inl e ↦ subst P (sym e) caret | inr not_94 ↦ other not_93 not_45 not_94 ]
-      ]
+      | inr not_93 ↦ elim (eq_or_not c 45) [ inl e ↦ subst P (sym e) dash | inr not_45 ↦ elim (eq_or_not c 94) [ inl e ↦ subst P (sym e) caret | inr not_94 ↦ other not_93 not_45 not_94 ] ]
     ]
 
 -- where no item begins

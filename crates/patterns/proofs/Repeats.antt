@@ -1,6 +1,5 @@
 -- An atom with its sign of repetition, and what goes on after it.
-use Rattle.std.proofs.Common.{◌≡◌, ℕ, zero, suc, ◌+◌, ◌-◌, ◌<◌, ◌==◌, ◌&&◌, nat_lt, Bool, true, false, List, [], ◌∷◌, ◌++◌, length, refl, sym, ◌∙◌, ap, subst, append_assoc, add-one, arith, Some, None, Vec, Result, Ok, Err}
-use Rattle.patterns.proofs.Common.{IsErr, IsErrAnd, IfErr, nat_tests, Expression, Literal, Class, Interval, PatternFault, Global, Refusal, Fault, Memory, Written, Plain, Before, Outside, Nothing, AnAtom, ARepetition, fault_from, Level, Alt, Rep, Atom, SpellsAt, literal, class, group, writing, Begins, HasNoBlank, IsPart, IsRead, IsRepeated, IsAtEnd, IsLiteralPrefix, IsClassBody, Syntax, Reports, stops, append-nil, Character, is_sound, or_parts}
+use Rattle.patterns.proofs.Common.{◌≡◌, ℕ, zero, suc, ◌+◌, ◌-◌, ◌<◌, ◌==◌, ◌&&◌, nat_lt, Bool, true, false, List, [], ◌∷◌, ◌++◌, length, refl, sym, ◌∙◌, ap, subst, append_assoc, add-one, arith, Some, None, Vec, Result, Ok, Err, IsErr, IsErrAnd, IfErr, nat_tests, Expression, Literal, Class, Interval, PatternFault, Global, Refusal, Fault, Memory, Written, Plain, Before, Outside, Nothing, AnAtom, ARepetition, fault_from, Level, Alt, Rep, Atom, SpellsAt, literal, class, group, writing, Begins, HasNoBlank, IsPart, IsRead, IsRepeated, IsAtEnd, IsLiteralPrefix, IsClassBody, Syntax, Reports, stops, append-nil, Character, is_sound, or_parts}
 use Rattle.patterns.proofs.Blanks.{Skips, blanks_after_part, blanks_skipped}
 use Rattle.patterns.proofs.Literals.{not_equal}
 

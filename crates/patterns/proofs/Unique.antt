@@ -1,7 +1,6 @@
 -- All expressions that one text spells mean the same texts: a machine that reads the text makes one form, which means what each of
 -- them does.
-use Rattle.std.proofs.Common.{◌≡◌, ◌⊎◌, ◌↔◌, inl, inr, ℕ, ◌==◌, Bool, true, false, cond, List, [], ◌∷◌, ◌++◌, Option, Some, None, refl, sym, ◌∙◌, ap, subst, append_assoc, IsTrue}
-use Rattle.patterns.proofs.Common.{AllByRecursion, append-nil, Interval, Expression, IsCharacter, IsJoin, IsNonemptyJoin, is_in_class, Matches, Written, Plain, Escaped, BadEscape, written, Level, Alt, Seq, Rep, Atom, SpellsAt, Spells, choice, sequence, star, plus, optional, literal, class, group, one_seq, one_rep, one_atom, blank_before, blank_after, IsSign, IsBlank, IsLiteralRest, IsLiteral, IsClassRest, IsClass, IsClassChar}
+use Rattle.patterns.proofs.Common.{◌≡◌, ◌⊎◌, ◌↔◌, inl, inr, ℕ, ◌==◌, Bool, true, false, cond, List, [], ◌∷◌, ◌++◌, Option, Some, None, refl, sym, ◌∙◌, ap, subst, append_assoc, IsTrue, AllByRecursion, append-nil, Interval, Expression, IsCharacter, IsJoin, IsNonemptyJoin, is_in_class, Matches, Written, Plain, Escaped, BadEscape, written, Level, Alt, Seq, Rep, Atom, SpellsAt, Spells, choice, sequence, star, plus, optional, literal, class, group, one_seq, one_rep, one_atom, blank_before, blank_after, IsSign, IsBlank, IsLiteralRest, IsLiteral, IsClassRest, IsClass, IsClassChar}
 use Rattle.patterns.proofs.Literals.{by_plain, not_equal}
 
 -- a set of texts
@@ -160,9 +159,7 @@ outside go fs f c =
     (go fs f Out))))))))
 
 abbrev read_one : Go → Written → List Frame → Frame → Mode → Frame
-read_one go (BadEscape o) fs f m = f
 read_one go (Plain o c) fs f Out = outside go fs f c
-read_one go (Escaped o c) fs f Out = f
 read_one go (Plain o c) fs f (Lit v) = cond (c == 34) (go fs (push f (Text v)) Out) (go fs f (Lit (v ++ c ∷ [])))
 read_one go (Escaped o c) fs f (Lit v) = go fs f (Lit (v ++ c ∷ []))
 read_one go (Plain o c) fs f (Cls n is p) =
@@ -173,6 +170,7 @@ read_one go (Plain o c) fs f (Cls n is p) =
 read_one go (Escaped o c) fs f (Cls n is p) = go fs f (Cls n (flushed is p) (Some c))
 read_one go (Plain o c) fs f (Dash n is a) = go fs f (Cls n (is ++ interval a c ∷ []) None)
 read_one go (Escaped o c) fs f (Dash n is a) = go fs f (Cls n (is ++ interval a c ∷ []) None)
+read_one go a fs f m = f
 
 abbrev run : List Written → List Frame → Frame → Mode → Frame
 run [] fs f m = f
@@ -227,11 +225,7 @@ sequence_same f g h L M s t =
 sequence_shown : (us vs ws : List Written) (L M : Language) → ws ≡ us ++ vs → Reports Seq L us → Reports Seq M vs → Reports Seq (Join L M) ws
 sequence_shown us vs ws L M e a b fs f rest =
     let one = a fs f (vs ++ rest) in
-    let two = b fs one.0 rest in (
-      two.0,
-      (two.1.0 ∙ one.1.0, sequence_same f one.0 two.0 L M one.1.1 two.1.1),
-      along us vs ws rest fs f e ∙ one.2 ∙ two.2,
-    )
+    let two = b fs one.0 rest in (two.0, (two.1.0 ∙ one.1.0, sequence_same f one.0 two.0 L M one.1.1 two.1.1), along us vs ws rest fs f e ∙ one.2 ∙ two.2)
 
 -- a sign of repetition after an atom
 sign_repeats : (sign : Form → Form) (K L : Language) (c : ℕ) (us ws : List Written) (w : Written) → ((v : Form) → Same (Means v) K → Same (Means (sign v)) L)
@@ -289,13 +283,11 @@ literal_rest_shown v [] rest fs f u h = absurd h
 literal_rest_shown [] (Plain o c ∷ ws) rest fs f u h =
     let P : ℕ → Type 0 = λ x. run (Plain o x ∷ ws ++ rest) fs f (Lit u) ≡ run rest fs (push f (Text (u ++ []))) Out in
     subst P h.0 (ap (λ y. run (y ++ rest) fs (push f (Text u)) Out) h.1 ∙ ap (λ y. run rest fs (push f (Text y)) Out) (sym (append-nil u)))
-literal_rest_shown [] (Escaped o c ∷ ws) rest fs f u h = absurd h.0
-literal_rest_shown [] (BadEscape o ∷ ws) rest fs f u h = absurd h.0
 literal_rest_shown (c ∷ v) (Plain o x ∷ ws) rest fs f u h =
     rw (not_equal x 34 h.0.1) (literal_rest_shown v ws rest fs f (u ++ x ∷ []) h.1 ∙ ap (λ y. run rest fs (push f (Text y)) Out) (append_assoc u (x ∷ []) v ∙ ap (λ y. u ++ y ∷ v) (sym h.0.0)))
 literal_rest_shown (c ∷ v) (Escaped o x ∷ ws) rest fs f u h =
     literal_rest_shown v ws rest fs f (u ++ x ∷ []) h.1 ∙ ap (λ y. run rest fs (push f (Text y)) Out) (append_assoc u (x ∷ []) v ∙ ap (λ y. u ++ y ∷ v) (sym h.0))
-literal_rest_shown (c ∷ v) (BadEscape o ∷ ws) rest fs f u h = absurd h.0
+literal_rest_shown v ws rest fs f u h = absurd h.0
 
 literal_shown : (v : List ℕ) (ws : List Written) → IsLiteral v ws → Reports Atom (λ u. u ≡ v) ws
 literal_shown v [] h fs f rest = absurd h
@@ -346,15 +338,14 @@ items_shown (j ∷ js) ws rest fs f n is p (a ∷ b ∷ c ∷ [], more, e, hi, h
 items_shown (j ∷ js) ws rest fs f n is p (a ∷ b ∷ c ∷ d ∷ vs, more, e, hi, hr) = absurd hi
 
 class_shown : (n : Bool) (is : List Interval) (ws : List Written) → IsClass n is ws → Reports Atom (Means (Members n is)) ws
-class_shown n is [] h fs f rest = absurd h
 class_shown false is (w ∷ ws) h fs f rest =
     (push f (Members false is), (Members false is, same (Means (Members false is)), refl), sign_shown 91 w (ws ++ rest) fs f h.0 ∙ items_shown is ws rest fs f false [] None h.1)
-class_shown true is (w ∷ []) h fs f rest = absurd h
 class_shown true is (w ∷ x ∷ ws) h fs f rest = (
   push f (Members true is),
   (Members true is, same (Means (Members true is)), refl),
   sign_shown 91 w (x ∷ ws ++ rest) fs f h.0 ∙ class_sign_shown 94 x (ws ++ rest) fs f (Cls false [] None) h.1 ∙ items_shown is ws rest fs f true [] None h.2,
 )
+class_shown n is ws h fs f rest = absurd h
 
 shown : {l : Level} {d : ℕ} {e : Expression} {ws : List Written} → SpellsAt l d e ws → Reports l (Matches e) ws
 shown (choice {a = a} {b = b} d us vs ws w f sign s t) = choice_shown us vs ws w (Matches a) (Matches b) f sign (shown s) (shown t)

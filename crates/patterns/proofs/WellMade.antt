@@ -1,6 +1,5 @@
 -- The tests of an expression decide what they are meant to.
-use Rattle.std.proofs.Common.{◌≡◌, ◌≢◌, inl, inr, ℕ, ◌+◌, ◌==◌, ◌≤◌, nat_le, Bool, true, false, not, ◌&&◌, ◌||◌, List, [], ◌∷◌, ◌++◌, refl, sym, ap, subst, arith, lit≤}
-use Rattle.patterns.proofs.Common.{nat_tests, list_all, concat, AllByRecursion, Interval, Expression, Literal, Class, Sequence', Choice', Star', Plus', Optional', IsCharacter, is_member, is_in_class, Matches, is_scalar, code_after, is_everything, is_nothing, IsWellMade, is_empty, matches_empty, is_range, is_sound, and_parts, not-true, or_left, or_right}
+use Rattle.patterns.proofs.Common.{◌≡◌, ◌≢◌, inl, inr, ℕ, ◌+◌, ◌==◌, ◌≤◌, nat_le, Bool, true, false, not, ◌&&◌, ◌||◌, List, [], ◌∷◌, ◌++◌, refl, sym, ap, subst, arith, lit≤, nat_tests, list_all, concat, AllByRecursion, Interval, Expression, Literal, Class, Sequence', Choice', Star', Plus', Optional', IsCharacter, is_member, is_in_class, Matches, is_scalar, code_after, is_everything, is_nothing, IsWellMade, is_empty, matches_empty, is_range, is_sound, and_parts, not-true, or_left, or_right}
 use Rattle.patterns.proofs.Literals.{eq_or_not, not_equal}
 
 not_false : (a : Bool) → a ≡ false → not a ≡ true
@@ -15,10 +14,7 @@ after c h g other = grind (arith, nat_tests)
 next_character : (c : ℕ) → is_scalar c ≡ true → (c == 0x10_FFFF) ≡ false → IsCharacter (code_after c)
 next_character c h g =
     let P : ℕ → Type 0 = λ x. IsCharacter (code_after x) in
-    elim (eq_or_not c 0xD7FF) [
-      | inl e ↦ subst P (sym e) (inr (lit≤ tt, lit≤ tt))
-      | inr other ↦ rw (not_equal c 0xD7FF other) (after c h g other)
-    ]
+    elim (eq_or_not c 0xD7FF) [ inl e ↦ subst P (sym e) (inr (lit≤ tt, lit≤ tt)) | inr other ↦ rw (not_equal c 0xD7FF other) (after c h g other) ]
 
 gap_at : (all : List Interval) (i : Interval) (is : List Interval) → list_all is_range (i ∷ is) ≡ true → (a b : Bool) → (i.last == 0x10_FFFF) ≡ a
     → is_member (code_after i.last) all ≡ b → list_all (λ j. j.last == 0x10_FFFF || is_member (code_after j.last) all) (i ∷ is) ≡ false

@@ -1,7 +1,6 @@
 -- A text without a fault spells a well made expression: what has been read is parts of one, and each further character goes on with them.
-use denote.RawPtr.{null_ptr}
-use Rattle.std.proofs.Common.{◌≡◌, ◌≢◌, inl, inr, ℕ, zero, suc, ◌+◌, ◌-◌, ◌*◌, ◌^◌, ◌<◌, ◌≤◌, ◌==◌, ◌&&◌, ◌||◌, nat_lt, nat_le, Bool, true, false, not, List, [], ◌∷◌, ◌++◌, length, None, Ok, Err, Vec, refl, sym, ◌∙◌, ap, subst, append_assoc, append-nil, length-append, add-one, le_refl, arith, if◌then◌else◌}
-use Rattle.patterns.proofs.Common.{AllByRecursion, recursion_from_All, list_all, nat_tests, digit_value, Global, Interval, Expression, Literal, Class, Sequence', Choice', Star', Plus', Optional', Address, IsCharacter, IsText, is_scalar, is_mark, Written, Plain, Escaped, BadEscape, written, escape, braced, digits, Before, Nothing, AnAtom, ARepetition, is_something, is_atom, InItem, Opened, Items, First, Dash, State, Outside, InLiteral, InClass, Next, step, closed, close, dash, caret, char_in_class, is_nothing, fault_from, fault_at_end, or_later, first_fault, Level, Alt, Seq, Rep, Atom, SpellsAt, Spells, choice, sequence, star, plus, optional, literal, class, group, one_seq, one_rep, one_atom, blank_before, blank_after, IsSign, IsBlank, IsLiteralChar, IsLiteralRest, IsLiteral, IsItem, IsClassChar, IsClassRest, IsClass, IsWellMade, is_empty, is_range, and_parts}
+use Rattle.patterns.proofs.Common.{null_ptr, ◌≡◌, ◌≢◌, inl, inr, ℕ, zero, suc, ◌+◌, ◌-◌, ◌*◌, ◌^◌, ◌<◌, ◌≤◌, ◌==◌, ◌&&◌, ◌||◌, nat_lt, nat_le, Bool, true, false, not, List, [], ◌∷◌, ◌++◌, length, None, Ok, Err, Vec, refl, sym, ◌∙◌, ap, subst, append_assoc, length-append, add-one, le_refl, arith, if◌then◌else◌, AllByRecursion, recursion_from_All, list_all, nat_tests, digit_value, Global, Interval, Expression, Literal, Class, Sequence', Choice', Star', Plus', Optional', Address, IsCharacter, IsText, is_scalar, is_mark, Written, Plain, Escaped, BadEscape, written, escape, braced, digits, Before, Nothing, AnAtom, ARepetition, is_something, is_atom, InItem, Opened, Items, First, Dash, State, Outside, InLiteral, InClass, Next, step, closed, close, dash, caret, char_in_class, is_nothing, fault_from, fault_at_end, or_later, first_fault, Level, Alt, Seq, Rep, Atom, SpellsAt, Spells, choice, sequence, star, plus, optional, literal, class, group, one_seq, one_rep, one_atom, blank_before, blank_after, IsSign, IsBlank, IsLiteralChar, IsLiteralRest, IsLiteral, IsItem, IsClassChar, IsClassRest, IsClass, IsWellMade, is_empty, is_range, and_parts}
+use Rattle.std.proofs.Common.{append-nil}
 use Rattle.patterns.proofs.Literals.{GoesOn, one_more, all_and_one, not_empty_after}
 use Rattle.patterns.proofs.WellMade.{or_case, ranges, has_member, filled}
 
@@ -231,10 +230,9 @@ longer_class (i ∷ is) ws ([], rest, e, item, h) = absurd item
 longer_class (i ∷ is) ws (w ∷ more, rest, e, item, h) = omega (arith, ap length e, length-append more rest, longer_class is rest h)
 
 few_items : (negated : Bool) (is : List Interval) (ws : List Written) → IsClass negated is ws → length is < length ws
-few_items negated is [] h = absurd h
 few_items false is (w ∷ ws) h = omega (arith, longer_class is ws h.1)
-few_items true is (w ∷ []) h = absurd h
 few_items true is (w ∷ x ∷ ws) h = omega (arith, longer_class is ws h.2)
+few_items negated is ws h = absurd h
 
 class_ends : {d : ℕ} {ws cs : List Written} (bracket : ℕ) (negated : Bool) (is : List Interval) (w : Written) → Begun d ws cs → list_all is_range is ≡ true
     → GoesOn IsClassRest (IsClass negated) is cs → IsSign 93 w → length (ws ++ w ∷ []) < 2 ^ 63 → Goes (ws ++ w ∷ []) (closed d bracket negated is)
@@ -310,9 +308,7 @@ IsGood (Escaped o c) = is_scalar c ≡ true
 IsGood (BadEscape o) = Unit {0}
 
 step_goes : (s : State) (w : Written) (ws : List Written) → IsGood w → length (ws ++ w ∷ []) < 2 ^ 63 → Reached s ws → Goes (ws ++ w ∷ []) (step s w)
-step_goes s (BadEscape o) ws good small r = tt
 step_goes (Outside d b) (Plain o c) ws good small r = outside_goes d b o c ws r
-step_goes (Outside d b) (Escaped o c) ws good small r = tt
 step_goes (InLiteral d q empty) (Escaped o c) ws good small r = literal_goes d q empty c (Escaped o c) ws refl r
 step_goes (InLiteral d q empty) (Plain o c) ws good small r =
     let P : Next → Type 0 = Goes (ws ++ Plain o c ∷ []) in
@@ -327,6 +323,7 @@ step_goes (InClass d b negated items at) (Plain o c) ws good small r =
     (λ p. by_test P (c == 45) (λ h. dash_goes d b negated items at w o ws (sign_of c 45 h) r)
     (λ q. by_test P (c == 94) (λ h. caret_goes d b negated items at w o ws (sign_of c 94 h) r)
     (λ k. char_goes d b negated items at c w o ws (refl, differs c 93 p, differs c 45 q, differs c 94 k) good r)))
+step_goes s w ws good small r = tt
 
 at_end : (n : ℕ) (s : State) (ws : List Written) → Reached s ws → fault_at_end n s ≡ None → Makes Alt 0 ws
 at_end n (Outside zero AnAtom) ws (us, vs, e, nil, stands) h = along (e ∙ ap (λ x. x ++ vs) nil) (alternatives 0 AnAtom vs refl stands)

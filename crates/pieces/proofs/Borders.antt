@@ -1,16 +1,11 @@
 -- Where a text may be cut.
-use Rattle.pieces.proofs.Common.{IsUtf8, IsCharBoundary, all_scalars, chars, cases_lt, and_parts, and_from, take-append-drop, take-append_seam, drop-append_seam, units, Utf8, IsUtf8-drop, IsCharBoundary-past_char, IsCharBoundary-start, IsCharBoundary-at_seam, len_utf8_bounds, chars-encodes, scalars-chars, encodes-chars, encodes-append, len_utf8}
-use Rattle.std.proofs.Common.{arith, refl, sym, ap, subst, inl, inr, ◌∙◌, ◌≡◌, ℕ, zero, suc, ◌+◌, ◌<◌, ◌≤◌, true, List, [], ◌∷◌, ◌++◌, length, take, drop, encode_utf8_all}
-use Rattle.std.proofs.lemmas.List.{length-drop}
+use Rattle.pieces.proofs.Common.{IsUtf8, IsCharBoundary, all_scalars, chars, cases_lt, and_parts, and_from, take-append-drop, take-append_seam, drop-append_seam, units, Utf8, IsUtf8-drop, IsCharBoundary-past_char, IsCharBoundary-start, IsCharBoundary-at_seam, len_utf8_bounds, chars-encodes, scalars-chars, encodes-chars, encodes-append, len_utf8, arith, refl, sym, ap, subst, inl, inr, ◌∙◌, ◌≡◌, ℕ, zero, suc, ◌+◌, ◌<◌, ◌≤◌, true, List, [], ◌∷◌, ◌++◌, length, take, drop, encode_utf8_all, length-drop}
 use Rattle.pieces.proofs.Joins.{units-bytes}
 
 -- the first place from n on at which a text may be cut
 module _ (bs : List ℕ) (at n : ℕ) (u : IsUtf8 bs) (inside : n ≤ length bs) (none : (i : ℕ) → n ≤ i → i < at → ¬ (IsCharBoundary bs i)) where
   pub not_past : (i : ℕ) → IsCharBoundary bs i → n ≤ i → at ≤ i
-  not_past i b l = elim (cases_lt i at) [
-    | inl h ↦ absurd (none i l h b)
-    | inr h ↦ h
-  ]
+  not_past i b l = elim (cases_lt i at) [ inl h ↦ absurd (none i l h b) | inr h ↦ h ]
 
   -- the place after a character
   next : (s : ℕ) → IsCharBoundary bs s → s < length bs → (t : ℕ) × (IsCharBoundary bs t × ((s < t) × (t ≤ s + 4)))
@@ -25,10 +20,7 @@ module _ (bs : List ℕ) (at n : ℕ) (u : IsUtf8 bs) (inside : n ≤ length bs)
   near_from (suc k) s b l m = elim (cases_lt s n) [
     | inl i ↦
         let t = next s b (omega (arith, i, inside)) in
-        elim (cases_lt n t.0) [
-          | inl h ↦ omega (arith, i, t.1.1.1, not_past t.0 t.1.0 (omega (arith, h)))
-          | inr h ↦ near_from k t.0 t.1.0 h (omega (arith, m, t.1.1.0))
-        ]
+        elim (cases_lt n t.0) [ inl h ↦ omega (arith, i, t.1.1.1, not_past t.0 t.1.0 (omega (arith, h))) | inr h ↦ near_from k t.0 t.1.0 h (omega (arith, m, t.1.1.0)) ]
     | inr i ↦ omega (arith, l, not_past s b i)
   ]
 

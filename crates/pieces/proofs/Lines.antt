@@ -1,7 +1,5 @@
 -- The sum of a text by the units of what is after its last `\r` or `\n`, with one character more.
-use Rattle.pieces.proofs.Common.{zero, suc, true, false, ◌||◌, cases_Bool, and_parts, eqb-true, ne_eqb, lt-ltb, IsAscii, chars-IsAscii, IsUtf8-from_ascii, len_utf8_ascii, saturated-zero_left, saturated-exact, Utf8, Utf16, Utf32, unit, units, Counts, Sums, Empty, Filled, Units, sums_of, most, sum, units_joined, later_breaks, after_joined, joined, no_units, units_of, ascii_units, shown_units, HaveRoom, is_none, line_sums, joined-assoc}
-use Rattle.std.specs.Prelude.{◌≡◌, ℕ, ◌+◌, ◌<◌, ◌≤◌, ◌⊎◌, ◌==◌, List, [], ◌∷◌, ◌++◌, length, take}
-use Rattle.std.proofs.Common.{arith, refl, sym, ap, subst, inl, inr, ◌∙◌, cond}
+use Rattle.pieces.proofs.Common.{zero, suc, true, false, ◌||◌, cases_Bool, and_parts, eqb-true, ne_eqb, lt-ltb, IsAscii, chars-IsAscii, IsUtf8-from_ascii, len_utf8_ascii, saturated-zero_left, saturated-exact, Utf8, Utf16, Utf32, unit, units, Counts, Sums, Empty, Filled, Units, sums_of, most, sum, units_joined, later_breaks, after_joined, joined, no_units, units_of, ascii_units, shown_units, HaveRoom, is_none, line_sums, joined-assoc, ◌≡◌, ℕ, ◌+◌, ◌<◌, ◌≤◌, ◌⊎◌, ◌==◌, List, [], ◌∷◌, ◌++◌, length, take, arith, refl, sym, ap, subst, inl, inr, ◌∙◌, cond}
 use Rattle.pieces.proofs.Joins.{sums_of_one, sums_of-more, units-chars, unit-le, length-le, units-append, units-cons, units-nil}
 use Rattle.pieces.proofs.KnownPrefix.{character-le}
 use Rattle.pieces.proofs.CharacterLoops.{few-take}
@@ -101,11 +99,7 @@ line-room before line t c is fits =
     let h : AreWithin line (counts_in (sums_of t)) = subst (λ s. AreWithin line (counts_in s)) is (within before line) in
     let few = few-counts t in
     let whole : units Utf8 t + unit Utf8 c ≤ most = omega (arith, fits, units-append Utf8 t (c ∷ []), units-cons Utf8 c [], units-nil Utf8) in
-    record {
-      utf8 = omega (arith, h.utf8, few.0, whole);
-      utf16 = omega (arith, h.utf16, few.1.0, unit-le Utf16 c, whole);
-      utf32 = omega (arith, h.utf32, few.1.1, unit-le Utf32 c, whole);
-    }
+    record { utf8 = omega (arith, h.utf8, few.0, whole); utf16 = omega (arith, h.utf16, few.1.0, unit-le Utf16 c, whole); utf32 = omega (arith, h.utf32, few.1.1, unit-le Utf32 c, whole) }
 
 -- the bytes of a text of ASCII are its characters, and each has one unit
 one_more : (n c : ℕ) → c < 0x80 → n + 1 ≤ most → ascii_units (n + 1) ≡ units_joined (ascii_units n) (units_of c)

@@ -1,16 +1,13 @@
 -- What may follow no symbols, and what may follow those that begin with a token rule.
-use Rattle.std.proofs.Common.{◌≡◌, ◌↔◌, ◌<◌, ℕ, List, [], ◌∷◌, Option, Some, length, slice_index_or, arith, refl, subst, inl, inr, ⊎_elim}
-use Rattle.productions.proofs.Common.{Symbol, Terminal, Nonterminal, Grammar, IsNullable, None_left, Drop, InFirst, At_once, Within, After, MayFollow}
+use Rattle.productions.proofs.Common.{◌≡◌, ◌↔◌, ◌<◌, ℕ, List, [], ◌∷◌, Option, Some, length, slice_index_or, arith, refl, subst, inl, inr, ⊎_elim, Symbol, Terminal, Nonterminal, Grammar, IsNullable, None_left, Drop, InFirst, At_once, MayFollow}
 
 begins_nothing : (g : Grammar) (a : ℕ) (ss : List Symbol) → ss ≡ [] → InFirst g a ss → ⊥
 begins_nothing g a ss e At_once = cc e
-begins_nothing g a ss e (Within p h b) = cc e
-begins_nothing g a ss e (After v b) = cc e
+begins_nothing g a ss e b = cc e
 
 begins_rule : (g : Grammar) (a b : ℕ) (ss rest : List Symbol) → ss ≡ Terminal b ∷ rest → InFirst g a ss → a ≡ b
 begins_rule g a b ss rest e At_once = cc e
-begins_rule g a b ss rest e (Within p h i) = absurd (cc e)
-begins_rule g a b ss rest e (After v i) = absurd (cc e)
+begins_rule g a b ss rest e i = absurd (cc e)
 
 not_nullable_rule : (g : Grammar) (a : ℕ) (ss rest : List Symbol) → ss ≡ Terminal a ∷ rest → IsNullable g ss → ⊥
 not_nullable_rule g a ss rest e None_left = cc e

@@ -1,4 +1,5 @@
 -- What the proofs of this crate cite of definitions, of types and of other crates, passed on from one place. Declares nothing.
+pub use Rattle.std.proofs.Common.{◌&&◌, ◌+◌, ◌<◌, ◌∙◌, ◌∷◌, ◌≡◌, ◌≤◌, ◌⊎◌, Bool, List, None, Option, Some, [], ap, arith, encode_utf8_all, false, inl, inr, le-leb, leb-false, leb-true, length, length-take, map, nat_le, refl, reverse, subst, suc, sym, take, true, zero, ℕ, ⊎_elim}
 pub use Rattle.std.specs.Prelude.{Err, IfOk, Ok, Result}
 pub use Rattle.std.specs.List.{AllByRecursion}
 pub use Rattle.std.specs.Str.{IsUtf8, all_scalars, chars}

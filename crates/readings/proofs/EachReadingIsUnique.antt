@@ -1,6 +1,5 @@
 -- A text has one reading by a grammar file, and a reading has one answer to each question.
-use Rattle.std.proofs.Common.{◌≡◌, ℕ, Bool, List, [], ◌∷◌, sym, ap, subst, ◌∙◌, reverse, map, length, Option, Some}
-use Rattle.readings.proofs.Common.{Kind, Position, Range, Encoding, Expression, AreFolds, Diagnostic, IsSelection, diagnostic, range_of, AreDocumentTrees, IsNodeOf, HasNoConflict, IsExpected, IsVerdict, Verdict, HasTree, offset, AreTokens, Placed, Token, kinds, Grammar, Tree, FileGrammar, AreFoldsOf, IsSelectionOf, placed_parts, IsDiagnosis, IsFaultAfter, looks, Reading, IsReading, AreSelections, AnswersOnce}
+use Rattle.readings.proofs.Common.{◌≡◌, ℕ, Bool, List, [], ◌∷◌, sym, ap, subst, ◌∙◌, reverse, map, length, Option, Some, Kind, Position, Range, Encoding, Expression, AreFolds, Diagnostic, IsSelection, diagnostic, range_of, AreDocumentTrees, IsNodeOf, HasNoConflict, IsExpected, IsVerdict, Verdict, HasTree, offset, AreTokens, Placed, Token, kinds, Grammar, Tree, FileGrammar, AreFoldsOf, IsSelectionOf, placed_parts, IsDiagnosis, IsFaultAfter, looks, Reading, IsReading, AreSelections, AnswersOnce}
 
 -- of each thing that an answer is made of there is one
 pub record Unique : Type 0 where
@@ -56,9 +55,4 @@ module _ (unique : Unique) (file : FileGrammar) (free : HasNoConflict file.gramm
   one_folds t r one other a b = unique.folds file.grammar r.trees t (placed_parts file r.tokens) file.folds other one b a
 
   pub answers_once : AnswersOnce file
-  answers_once = record {
-    readings = one_reading;
-    faults = λ encoding t r. one_diagnosis encoding t r.tokens r.verdict;
-    folds = one_folds;
-    selections = one_list;
-  }
+  answers_once = record { readings = one_reading; faults = λ encoding t r. one_diagnosis encoding t r.tokens r.verdict; folds = one_folds; selections = one_list }

@@ -1,4 +1,5 @@
 -- What the proofs of this crate cite of definitions, of types and of other crates, passed on from one place. Declares nothing.
+pub use Rattle.std.proofs.Common.{◌+◌, ◌-◌, ◌<◌, ◌||◌, ◌∙◌, ◌∷◌, ◌≡◌, ◌≤◌, List, None, Option, Result, Some, [], ap, arith, drop, false, get_or, length, map, negsuc, of_z, pos, refl, rules, string_bytes, subst, suc, sym, take, take_all, to_z, to_z-of_z, w32, ℕ, ℤ}
 pub use Rattle.std.specs.Prelude.{OnOk, ⊤}
 pub use Rattle.std.proofs.lemmas.List.{drop_all, drop_more}
 pub use Rattle.std.proofs.lemmas.Result.{on_ok_weaker}

@@ -1,4 +1,5 @@
 -- What the proofs of this crate cite of definitions, of types and of other crates, passed on from one place. Declares nothing.
+pub use Rattle.std.proofs.Common.{◌&&◌, ◌*◌, ◌++◌, ◌+◌, ◌<◌, ◌==◌, ◌||◌, ◌∙◌, ◌∷◌, ◌≡◌, ◌≤◌, All, Bool, IfSome, IsUtf8, List, None, Option, Result, Some, [], ap, arith, codes, cond, drop, drop_at, false, get_or, if◌then◌else◌, is_none, is_some, length, length-append, map, nat_lt, option_and_then, option_map, refl, subst, suc, sym, take_at, true, zero, ℕ, ℤ}
 pub use Rattle.std.specs.Prelude.{unwrap_or, ⊤}
 pub use Rattle.std.specs.Char.{IsScalar, digit_value, encode_utf8, is_digit}
 pub use Rattle.std.specs.Cmp.Lexicographic.{slice_cmp}

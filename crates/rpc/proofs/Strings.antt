@@ -1,6 +1,6 @@
 -- The strings of a JSON text in UTF-8 are in UTF-8 themselves: from its bytes to its strings, its tokens and its values.
-use Rattle.std.proofs.Common.{◌≡◌, ℕ, ◌+◌, ◌*◌, ◌<◌, Bool, true, false, cond, ◌&&◌, ◌||◌, ◌==◌, List, [], ◌∷◌, ◌++◌, length, drop, get_or, Option, Some, None, IfSome, option_map, option_and_then, IsUtf8, refl, sym, ap, ◌∙◌, subst, arith, append_assoc, append-nil, nat_lt, length-append, take_at, drop_at}
-use Rattle.rpc.proofs.Common.{get_or-append_seam, cond_both, and_parts, eqb-true, ltb-true, IsUtf8-append, IsUtf8-encode, encode_ascii, IsUtf8-take, IsUtf8-drop, IsCharBoundary-before_ascii, IsCharBoundary-after_ascii, IsScalar, is_digit, digit_value, encode_utf8, Within, plain, after_backslash, after_u, after_high, content, prepend, code_unit, short_escape, is_high_surrogate, is_low_surrogate, surrogate_pair, low_scalar}
+use Rattle.rpc.proofs.Common.{◌≡◌, ℕ, ◌+◌, ◌*◌, ◌<◌, Bool, true, false, cond, ◌&&◌, ◌||◌, ◌==◌, List, [], ◌∷◌, ◌++◌, length, drop, get_or, Option, Some, None, IfSome, option_map, option_and_then, IsUtf8, refl, sym, ap, ◌∙◌, subst, arith, nat_lt, length-append, take_at, drop_at, get_or-append_seam, cond_both, and_parts, eqb-true, ltb-true, IsUtf8-append, IsUtf8-encode, encode_ascii, IsUtf8-take, IsUtf8-drop, IsCharBoundary-before_ascii, IsCharBoundary-after_ascii, IsScalar, is_digit, digit_value, encode_utf8, Within, plain, after_backslash, after_u, after_high, content, prepend, code_unit, short_escape, is_high_surrogate, is_low_surrogate, surrogate_pair, low_scalar}
+use Rattle.std.proofs.Common.{append_assoc, append-nil}
 use Rattle.json.specs.Ascii as ascii
 
 -- ---- an option's value
@@ -104,7 +104,6 @@ pair_is h l high low = grind arith
 -- The content of a string is in UTF-8 where the text is. A byte that is not ASCII is passed as it stands, so f may end within a character.
 pub content-utf8 : (w : Within) (f xs : List ℕ) → Starts w f xs → IfSome (content w xs) (λ s. IsUtf8 (f ++ s))
 unfolding content
-content-utf8 plain f [] u = tt
 content-utf8 plain f (x ∷ xs) u =
     let P : List ℕ → Type 0 = λ s. IsUtf8 (f ++ s) in
     cond_if P (x == ascii.quote) (Some []) _ (λ e. subst IsUtf8 (sym (append-nil f)) (before_ascii f xs x (byte_small e (omega arith)) u))
@@ -112,7 +111,6 @@ content-utf8 plain f (x ∷ xs) u =
     (λ e. content-utf8 after_backslash f xs (before_ascii f xs x (byte_small e (omega arith)) u, past_ascii f xs x (byte_small e (omega arith)) u))
     (λ _. cond_if P (nat_lt x ascii.space) None (prepend (x ∷ []) (content plain xs)) (λ _. tt)
     (λ _. prepended f (x ∷ []) (content plain xs) (content-utf8 plain (f ++ x ∷ []) xs (one_more f xs x u)))))
-content-utf8 after_backslash f [] u = tt
 content-utf8 after_backslash f (x ∷ xs) u =
     let P : List ℕ → Type 0 = λ s. IsUtf8 (f ++ s) in
     cond_if P (x == ascii.lower_u) (content after_u xs) _ (λ e. content-utf8 after_u f xs (u.0, past_ascii [] xs x (byte_small e (omega arith)) u.1))
@@ -120,10 +118,6 @@ content-utf8 after_backslash f (x ∷ xs) u =
     (λ c small. prepended f (c ∷ []) (content plain xs)
     (content-utf8 plain (f ++ c ∷ []) xs (IsUtf8-append _ _ (IsUtf8-append _ _ u.0 (IsUtf8-one c small.0)) (past_ascii [] xs x small.1 u.1))))
     (escape_small x))
-content-utf8 after_u f [] u = tt
-content-utf8 after_u f (a ∷ []) u = tt
-content-utf8 after_u f (a ∷ b ∷ []) u = tt
-content-utf8 after_u f (a ∷ b ∷ c ∷ []) u = tt
 content-utf8 after_u f (a ∷ b ∷ c ∷ d ∷ xs) u =
     let P : List ℕ → Type 0 = λ s. IsUtf8 (f ++ s) in
     if_then (λ v. (v < 65536) × (d < 128)) P
@@ -134,12 +128,6 @@ content-utf8 after_u f (a ∷ b ∷ c ∷ d ∷ xs) u =
     (λ low. prepended f (encode_utf8 v) (content plain xs)
     (content-utf8 plain (f ++ encode_utf8 v) xs (IsUtf8-append _ _ (IsUtf8-append _ _ u.0 (IsUtf8-encode v (lone_unit v small.0 high low))) rest)))))
     (unit_of a b c d)
-content-utf8 (after_high h) f [] u = tt
-content-utf8 (after_high h) f (s ∷ []) u = tt
-content-utf8 (after_high h) f (s ∷ v ∷ []) u = tt
-content-utf8 (after_high h) f (s ∷ v ∷ a ∷ []) u = tt
-content-utf8 (after_high h) f (s ∷ v ∷ a ∷ b ∷ []) u = tt
-content-utf8 (after_high h) f (s ∷ v ∷ a ∷ b ∷ c ∷ []) u = tt
 content-utf8 (after_high h) f (s ∷ v ∷ a ∷ b ∷ c ∷ d ∷ xs) u =
     let P : List ℕ → Type 0 = λ t. IsUtf8 (f ++ t) in
     cond_if P ((s == ascii.backslash) && (v == ascii.lower_u))
@@ -152,3 +140,4 @@ content-utf8 (after_high h) f (s ∷ v ∷ a ∷ b ∷ c ∷ d ∷ xs) u =
     (λ _. tt))
     (unit_of a b c d))
     (λ _. tt)
+content-utf8 w f xs u = tt

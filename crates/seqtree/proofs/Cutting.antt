@@ -1,9 +1,5 @@
 -- Items cut into chunks, one chunk more at a time, the last one first.
-use Rattle.std.proofs.Common.{arith, refl, sym, ap, subst, inl, inr, ◌∙◌, length-append, ◌≡◌, ℕ, ◌+◌, ◌<◌, ◌≤◌, ◌⊎◌, List, [], ◌∷◌, ◌++◌, length, All}
-use Rattle.std.proofs.lemmas.Bool.{cases_lt}
-use Rattle.std.proofs.lemmas.List.{append-nil}
-use Rattle.std.proofs.lemmas.List.Elements.{All-append, All-cons, All-nil}
-use Rattle.seqtree.specs.Chunks.{IsLarge, IsShort, IsMeasure, AreCut, IsCutOff}
+use Rattle.seqtree.proofs.Common.{arith, refl, sym, ap, subst, inl, inr, ◌∙◌, length-append, ◌≡◌, ℕ, ◌+◌, ◌<◌, ◌≤◌, ◌⊎◌, List, [], ◌∷◌, ◌++◌, length, All, cases_lt, append-nil, All-append, All-cons, All-nil, IsLarge, IsShort, IsMeasure, AreCut, IsCutOff}
 use Rattle.seqtree.proofs.Joined.{joined-append}
 
 module _ {X A : Type 0} (items : X → List A) (size : List A → ℕ) (shortest longest : ℕ) (measure : IsMeasure size shortest longest) where
@@ -22,13 +18,7 @@ module _ {X A : Type 0} (items : X → List A) (size : List A → ℕ) (shortest
 
   -- what has no size are no chunks
   pub none_cut : (list : List A) → size list ≤ 0 → AreCut items size shortest longest list []
-  none_cut list h = rw (no_item list h) record {
-    joined_are = refl;
-    large = λ _. All-nil Large;
-    short = All-nil Short;
-    one = λ _. omega arith;
-    none = λ _. refl;
-  }
+  none_cut list h = rw (no_item list h) record { joined_are = refl; large = λ _. All-nil Large; short = All-nil Short; one = λ _. omega arith; none = λ _. refl }
 
   module _ (whole left : List A) (most : ℕ) (chunk : X) (off : IsCutOff items size shortest most whole left chunk) where
     parted : size whole ≡ size left + size (items chunk)

@@ -1,10 +1,5 @@
 -- The first item at which a sum reaches what is looked for, over the sides of a node.
-use Rattle.std.proofs.Common.{◌≡◌, ℕ, suc, ◌+◌, ◌-◌, ◌<◌, ◌≤◌, Bool, true, false, List, [], ◌∷◌, ◌++◌, length, take, drop, sym, ap, ◌∙◌, inl, inr, arith, length-append, take-append-drop}
-use Rattle.std.proofs.Math.Seq.{take-append-add, take-append_seam}
-use Rattle.std.proofs.lemmas.List.{take-append-le}
-use Rattle.std.proofs.lemmas.Bool.{cases_lt, cases_Bool}
-use Rattle.seqtree.specs.Monoid.{MonoidLaws, total}
-use Rattle.seqtree.specs.Goal.{IsLeast}
+use Rattle.seqtree.proofs.Common.{◌≡◌, ℕ, suc, ◌+◌, ◌-◌, ◌<◌, ◌≤◌, Bool, true, false, List, [], ◌∷◌, ◌++◌, length, take, drop, sym, ap, ◌∙◌, inl, inr, arith, length-append, take-append-drop, take-append-add, take-append_seam, take-append-le, cases_lt, cases_Bool, MonoidLaws, total, IsLeast}
 use Rattle.seqtree.proofs.Totals.{total-append}
 
 module _ {A M : Type 0} {zero : M} {join : M → M → M} (measure : A → M) (laws : MonoidLaws zero join) (reached : M → Bool) (stays : (s r : M) → reached s ≡ true → reached (join s r) ≡ true) where
@@ -33,12 +28,7 @@ module _ {A M : Type 0} {zero : M} {join : M → M → M} (measure : A → M) (l
       not_earlier _ (tot (drop k xs)) (cc)
 
   pub least_none : (b : M) → IsLeast zero join measure reached b [] 0 b
-  least_none b = record {
-    within = omega arith;
-    sum_is = sym (laws.right_unit b);
-    not_before = λ k h. absurd (omega arith);
-    reached_at = λ h. absurd (omega arith);
-  }
+  least_none b = record { within = omega arith; sum_is = sym (laws.right_unit b); not_before = λ k h. absurd (omega arith); reached_at = λ h. absurd (omega arith) }
 
   pub least_left : (b : M) (xs : List A) (x : A) (ys : List A) (i : ℕ) (s : M) → reached (join b (tot xs)) ≡ true
       → IsLeast zero join measure reached b xs i s → IsLeast zero join measure reached b (xs ++ x ∷ ys) i s

@@ -1,11 +1,7 @@
 -- The items of chunks, and what lies before and after one of them.
-use Rattle.std.specs.Prelude.{◌≡◌, ℕ, zero, suc, ◌+◌, ◌-◌, ◌<◌, ◌≤◌, ◌⊎◌, List, [], ◌∷◌, ◌++◌, length, take, drop, slice_get, slice_index_or, unwrap_or, Some, None}
-use Rattle.std.proofs.Common.{arith, refl, sym, ap, inl, inr, ◌∙◌, get_or, length-append, append_assoc}
-use Rattle.std.proofs.lemmas.Bool.{cases_lt}
-use Rattle.std.proofs.lemmas.List.{append-nil, length-take, take-append-drop, take_all, drop_all, take_more, drop_more, take-append-le, drop-append-le}
-use Rattle.std.proofs.lemmas.Option.{slice_get_within, slice_get_cases, unwrap_or-slice_get, none-some}
-use Rattle.std.proofs.Math.Seq.{take-append-add, drop-append-add}
-use Rattle.seqtree.specs.Chunks.{joined, IsCut}
+use Rattle.seqtree.proofs.Common.{◌≡◌, ℕ, zero, suc, ◌+◌, ◌-◌, ◌<◌, ◌≤◌, ◌⊎◌, List, [], ◌∷◌, ◌++◌, length, take, drop, slice_get, slice_index_or, unwrap_or, Some, None, arith, refl, sym, ap, inl, inr, ◌∙◌, get_or, length-append, cases_lt, append-nil, length-take, take_all, drop_all, take_more, drop_more, take-append-le, drop-append-le, slice_get_within, slice_get_cases, unwrap_or-slice_get, none-some, take-append-add, drop-append-add, joined, IsCut}
+use Rattle.std.proofs.Common.{append_assoc}
+use Rattle.std.proofs.lemmas.List.{take-append-drop}
 
 -- past the last chunk
 pub past_chunk : {X : Type 0} (chunks : List X) (i : ℕ) → slice_get chunks i ≡ None → length chunks ≤ i

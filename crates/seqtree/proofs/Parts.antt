@@ -1,9 +1,6 @@
 -- The parts that an iterator has still to give, as a stack, and what is left of a node's items.
-use Rattle.std.proofs.Common.{◌≡◌, ℕ, suc, ◌+◌, ◌<◌, ◌≤◌, List, [], ◌∷◌, ◌++◌, length, length-append, drop, refl, sym, ap, ◌∙◌, arith, append_assoc}
-use Rattle.std.proofs.lemmas.List.{append-nil, drop-append-le}
-use Rattle.std.proofs.Math.Seq.{drop-append_seam, drop-append-add}
-use Rattle.seqtree.specs.Parts.{part_items, items_ahead, AreParts, IsPart}
-use Rattle.seqtree.specs.declared.iter.Part.{Part}
+use Rattle.seqtree.proofs.Common.{◌≡◌, ℕ, suc, ◌+◌, ◌<◌, ◌≤◌, List, [], ◌∷◌, ◌++◌, length, length-append, drop, refl, sym, ap, ◌∙◌, arith, append-nil, drop-append-le, drop-append_seam, drop-append-add, part_items, items_ahead, AreParts, IsPart, Part}
+use Rattle.std.proofs.Common.{append_assoc}
 
 module _ {A S : Type 0} where
   -- what is on top comes first

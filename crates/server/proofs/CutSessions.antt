@@ -1,6 +1,6 @@
 -- Sessions that are cut short: a prefix of the answers of a run is written.
-use Rattle.std.proofs.Common.{ℕ, List, [], ◌++◌, refl, ap, sym, subst, ◌∙◌, append_assoc, append-nil, ◌≡◌, Option, Some, None, Result, Ok, Err, OnErr}
-use Rattle.server.proofs.Common.{Appends, Keeps, State, bytes_of, AppendsPrefix, Served, ServedInPart, HasServed, CanServe, IsCutShort, RunFault, some_run}
+use Rattle.server.proofs.Common.{ℕ, List, [], ◌++◌, refl, ap, sym, subst, ◌∙◌, append_assoc, ◌≡◌, Option, Some, None, Result, Ok, Err, OnErr, Appends, Keeps, State, bytes_of, AppendsPrefix, Served, ServedInPart, HasServed, CanServe, IsCutShort, RunFault, some_run}
+use Rattle.std.proofs.Common.{append-nil}
 use Rattle.server.proofs.Runs.{run_then, run_on, appends_then, appends_nothing, bytes_then}
 
 -- what holds anyway

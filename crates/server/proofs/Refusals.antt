@@ -1,6 +1,5 @@
 -- How a document is lost by a change that is refused.
-use Rattle.std.proofs.Common.{◌≡◌, Result, Err}
-use Rattle.server.proofs.Common.{DocFault, Loss, TooLarge, loss_of}
+use Rattle.server.proofs.Common.{◌≡◌, Result, Err, DocFault, Loss, TooLarge, loss_of}
 use Rattle.docs.specs.declared.doc.DocFault.TheVariants as fault
 use Rattle.rpc.specs.Loss.TheVariants.{Memory}
 

@@ -1,6 +1,6 @@
 -- Runs one after another.
-use Rattle.std.proofs.Common.{◌≡◌, ℕ, List, [], ◌∷◌, ◌++◌, refl, ap, sym, subst, ◌∙◌, append_assoc, append-nil, Option, Some, None, MatchOption, IfSome}
-use Rattle.server.proofs.Common.{Appends, flat_map-append, map-append, compact_text, frame, contents, Received, received_in, Answer, reply_data, State, Step, StepOn, Run, bytes_of, Served, CanServe, run_serves, some_run}
+use Rattle.server.proofs.Common.{◌≡◌, ℕ, List, [], ◌∷◌, ◌++◌, refl, ap, sym, subst, ◌∙◌, append_assoc, Option, Some, None, MatchOption, IfSome, Appends, flat_map-append, map-append, compact_text, frame, contents, Received, received_in, Answer, reply_data, State, Step, StepOn, Run, bytes_of, Served, CanServe, run_serves, some_run}
+use Rattle.std.proofs.Common.{append-nil}
 use Rattle.frames.specs.declared.decoder.Frame.{Frame}
 
 match_map : (halt : Option ℕ) {P P' : Type 0} {Q Q' : ℕ → Type 0} → (P → P') → ((s : ℕ) → Q s → Q' s) → MatchOption halt P Q → MatchOption halt P' Q'
@@ -23,13 +23,7 @@ run_then a b c (content ∷ cs) ds xs ys stop r s = (
 -- what comes after a stop isn't looked at
 pub run_stops : (a c : State) (cs ds : List (List ℕ)) (xs : List Answer) (status : ℕ) → Run a cs xs (Some status) c → Run a (cs ++ ds) xs (Some status) c
 run_stops a c [] ds xs status r = let e : Some status ≡ None = r.1 in let f : ⊥ = cc in absurd f
-run_stops a c (content ∷ cs) ds xs status r = (
-  r.0,
-  r.1,
-  r.2,
-  r.3,
-  match_map r.1 (λ h. (h.0, h.1, run_stops r.2 c cs ds h.0 status h.2)) (λ s h. h) r.4,
-)
+run_stops a c (content ∷ cs) ds xs status r = (r.0, r.1, r.2, r.3, match_map r.1 (λ h. (h.0, h.1, run_stops r.2 c cs ds h.0 status h.2)) (λ s h. h) r.4)
 
 -- a run goes on over more contents
 pub run_on : (a c : State) → CanServe a → (cs ds : List (List ℕ)) (xs : List Answer) (stop : Option ℕ) → Run a cs xs stop c

@@ -327,15 +327,7 @@ splits = (
     (
       23,
       record { header = refl; follows = refl },
-      (
-        22,
-        record { header = refl; follows = refl },
-        (
-          22,
-          record { header = refl; follows = refl },
-          (22, record { header = refl; follows = refl }, (refl, tt)),
-        ),
-      ),
+      (22, record { header = refl; follows = refl }, (22, record { header = refl; follows = refl }, (22, record { header = refl; follows = refl }, (refl, tt)))),
     ),
   ),
 )

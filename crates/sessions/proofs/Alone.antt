@@ -1,6 +1,5 @@
 -- What is sent about a document depends on that document alone.
-use Rattle.std.proofs.Common.{◌≡◌, ◌≢◌, ℕ, ℤ, Bool, true, false, List, [], ◌∷◌, map, refl, sym, ap, subst, ◌∙◌, Option, Some, None, All}
-use Rattle.sessions.proofs.Common.{chars, get, All-from_recursion, Encoding, changed, AnswersOnce, CountsOnce, LastEdit, OpenDocument, FileGrammar, Ident, Request, initialize, shutdown, about, stats, Question, Notification, initialized, exit, open_text, change_text, close, malformed, unfit_open, unfit_change, unfit_close, request, notification, ignored, Received, unread, refused, accepted, TextChange, Answer, published_diagnostics, log_message, stats_reply, Lost, TooLarge, MalformedChange, Memory, named, AreAlikeFor, loses, loses_memory, SameFor, EachDocumentIsAlone, IsAnswer, IsCount, IsPublished, but_nodes, DocumentState, is_open, is_lost, Becomes, IsLastAfter, has_room, Publishes, State, OnRequest, Changes, Closes, Forgets, Holds, Ignores, Opens, Replies, Spoils, Step, OnNotification, new_document, Phase, New, Ready, Down}
+use Rattle.sessions.proofs.Common.{◌≡◌, ◌≢◌, ℕ, ℤ, Bool, true, false, List, [], ◌∷◌, map, refl, sym, ap, subst, ◌∙◌, Option, Some, None, All, chars, get, All-from_recursion, Encoding, changed, AnswersOnce, CountsOnce, LastEdit, OpenDocument, FileGrammar, Ident, Request, about, stats, Question, Notification, open_text, change_text, close, malformed, unfit_change, request, notification, Received, accepted, TextChange, Answer, published_diagnostics, log_message, stats_reply, Lost, TooLarge, MalformedChange, Memory, named, AreAlikeFor, loses, loses_memory, SameFor, EachDocumentIsAlone, IsAnswer, IsCount, IsPublished, but_nodes, DocumentState, is_open, is_lost, Becomes, IsLastAfter, has_room, Publishes, State, OnRequest, Changes, Closes, Forgets, Holds, Ignores, Opens, Replies, Spoils, Step, OnNotification, new_document, Phase, Ready}
 use Rattle.sessions.proofs.Effects.{Effect, stays, stands, goes, step_effect}
 use Rattle.sessions.proofs.Fresh.{one_answer, one_published}
 use Rattle.sessions.proofs.LookUps.{get_inserted, get_other, get_removed, get_other_removed}
@@ -64,12 +63,9 @@ one_becomes file counts version now changes (is_open d) (is_lost TooLarge) alike
 one_becomes file counts version now changes (is_lost TooLarge) (is_open e) alike a b = absurd (let g : Some e.text ≡ None = sym b.0 ∙ a in let f : ⊥ = cc in f)
 one_becomes file counts version now changes (is_lost TooLarge) (is_lost TooLarge) alike a b = refl
 one_becomes file counts version now changes (is_lost Memory) (is_lost Memory) alike a b = refl
-one_becomes file counts version now changes (is_open d) (is_lost Memory) alike a b = absurd (let f : ⊥ = cc in f)
-one_becomes file counts version now changes (is_lost TooLarge) (is_lost Memory) alike a b = absurd (let f : ⊥ = cc in f)
-one_becomes file counts version now changes (is_lost Memory) (is_open e) alike a b = absurd (let f : ⊥ = cc in f)
-one_becomes file counts version now changes (is_lost Memory) (is_lost TooLarge) alike a b = absurd (let f : ⊥ = cc in f)
 one_becomes file counts version now changes s (is_lost MalformedChange) alike a b = absurd b
 one_becomes file counts version now changes (is_lost MalformedChange) t alike a b = absurd a
+one_becomes file counts version now changes s t alike a b = absurd (let f : ⊥ = cc in f)
 
 module _ (file : FileGrammar) (once : AnswersOnce file) (counts : CountsOnce file) (uri : List ℕ) (old two new other : State) (answers other_answers : List Answer)
     (stop other_stop : Option ℕ) (by_file : old.file ≡ file) (held : get two.documents uri ≡ get old.documents uri) (two_file : two.file ≡ file) where
@@ -79,11 +75,7 @@ module _ (file : FileGrammar) (once : AnswersOnce file) (counts : CountsOnce fil
   -- nothing changes in either
   both_stay : (given : List Answer) (halt : Option ℕ) → answers ≡ given → other_answers ≡ given → stop ≡ halt → other_stop ≡ halt
       → new.documents ≡ old.documents → other.documents ≡ two.documents → Same
-  both_stay given halt a b s t n o = record {
-    sent = ap (map but_nodes) (b ∙ sym a);
-    stops = t ∙ sym s;
-    held = ap (λ h. get h uri) o ∙ (held ∙ sym (ap (λ h. get h uri) n));
-  }
+  both_stay given halt a b s t n o = record { sent = ap (map but_nodes) (b ∙ sym a); stops = t ∙ sym s; held = ap (λ h. get h uri) o ∙ (held ∙ sym (ap (λ h. get h uri) n)) }
 
   both_reply : (answer : Answer) → Replies old answer answers stop new → Replies two answer other_answers other_stop other → Same
   both_reply answer a b = both_stay (answer ∷ []) None a.0 b.0 a.1 b.1 (ap (λ (x : State). x.documents) a.2) (ap (λ (x : State). x.documents) b.2)
@@ -252,11 +244,9 @@ module _ (file : FileGrammar) (once : AnswersOnce file) (counts : CountsOnce fil
   asks_alike id d uri name a b = absurd (let f : ⊥ = cc in f)
 
   step_alike : (received : Received) (uri : List ℕ) → named received ≡ Some uri → Step old received answers stop new → Step two received other_answers other_stop other → Alike received uri
-  step_alike unread uri name a b = absurd (let f : ⊥ = cc in f)
-  step_alike (refused why) uri name a b = absurd (let f : ⊥ = cc in f)
   step_alike (accepted (request id call)) uri name a b = asks_alike id call uri name a b
   step_alike (accepted (notification note)) uri name a b = shows_alike note uri name a b
-  step_alike (accepted ignored) uri name a b = absurd (let f : ⊥ = cc in f)
+  step_alike received uri name a b = absurd (let f : ⊥ = cc in f)
 
 pub each_document_is_alone : (file : FileGrammar) → AnswersOnce file → CountsOnce file → EachDocumentIsAlone file
 each_document_is_alone file once counts uri received old answers stop new by_file step = (

@@ -1,4 +1,5 @@
 -- What the proofs of this crate cite of definitions, of types and of other crates, passed on from one place. Declares nothing.
+pub use Rattle.std.proofs.Common.{◌++◌, ◌+◌, ◌<◌, ◌||◌, ◌∙◌, ◌∷◌, ◌≡◌, ◌≢◌, ◌⊎◌, All, Bool, List, MatchOption, None, Option, Some, [], ap, append_assoc, arith, cond, drop, encode_utf8_all, false, get_or, inl, inr, is_some, length, map, min, nat_lt, option_map, pos, refl, subst, sym, take, true, ℕ, ℤ, ⊎_elim}
 pub use Rattle.std.specs.Cmp.{eq_by_cmp_equiv}
 pub use Rattle.std.specs.Cmp.Lexicographic.{slice_cmp}
 pub use Rattle.std.specs.FinMap.{empty, get, get-empty, get-insert, get-remove, insert, len, len-empty, nat_cmp-IsAntisymmetric, remove, same_map, slice_cmp-IsAntisymmetric}
@@ -24,7 +25,7 @@ pub use Rattle.rpc.specs.Ids.{Ident, numbered}
 pub use Rattle.rpc.specs.Log.TheVariants.{Lost}
 pub use Rattle.rpc.specs.Loss.{Loss}
 pub use Rattle.rpc.specs.Loss.TheVariants.{MalformedChange, Memory, TooLarge}
-pub use Rattle.rpc.specs.Messages.{Notification, Question, Received, Request, TextChange, Unfit, about, accepted, change_text, change_view, close, exit, ignored, initialize, initialized, invalid, its_folds, its_selections, its_text, its_tokens, its_tree, malformed, notification, open_text, refused, request, shutdown, stats, unfit_change, unfit_close, unfit_open, unread}
+pub use Rattle.rpc.specs.Messages.{Notification, Question, Received, Request, TextChange, Unfit, about, accepted, change_text, change_view, close, ignored, initialize, initialized, invalid, its_folds, its_selections, its_text, its_tokens, its_tree, malformed, notification, open_text, refused, request, shutdown, stats, unfit_change}
 pub use Rattle.rpc.specs.Range.{Range}
 pub use Rattle.rpc.specs.Reading.{received_in}
 pub use Rattle.rpc.specs.Replies.{Answer, folds_reply, log_message, published_diagnostics, selections_reply, stats_reply, tokens_reply}

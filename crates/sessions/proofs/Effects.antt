@@ -1,6 +1,5 @@
 -- What a step does to the documents: nothing, or one of them stands otherwise, or is forgotten.
-use Rattle.std.proofs.Common.{◌≡◌, ℕ, ℤ, Bool, true, false, cond, List, [], ◌∷◌, refl, sym, ap, subst, ◌∙◌, Option, Some, None, All}
-use Rattle.sessions.proofs.Common.{chars, get, All-from_recursion, Encoding, OpenDocument, fits, FileGrammar, Ident, Request, initialize, shutdown, about, stats, Question, its_text, its_tokens, its_tree, its_folds, its_selections, Notification, initialized, open_text, change_text, close, malformed, Unfit, unfit_open, unfit_change, unfit_close, request, notification, ignored, invalid, Received, unread, refused, accepted, TextChange, Answer, TooLarge, MalformedChange, Phase, New, Ready, Down, named, IsAnswer, IsCount, tree_answer, DocumentState, is_open, is_lost, Becomes, Held, has_room, Publishes, AllFit, State, OnRequest, Changes, Closes, Forgets, Holds, OnMalformed, Opens, Replies, Spoils, Step, OnNotification, new_document}
+use Rattle.sessions.proofs.Common.{◌≡◌, ℕ, ℤ, Bool, true, false, cond, List, [], ◌∷◌, refl, sym, ap, subst, ◌∙◌, Option, Some, None, All, chars, get, All-from_recursion, Encoding, OpenDocument, fits, FileGrammar, Ident, Request, initialize, shutdown, about, stats, Question, its_tokens, its_tree, Notification, initialized, open_text, change_text, close, malformed, Unfit, unfit_change, request, notification, ignored, Received, accepted, TextChange, Answer, TooLarge, MalformedChange, Phase, New, Ready, Down, named, IsAnswer, IsCount, tree_answer, DocumentState, is_open, is_lost, Becomes, Held, has_room, Publishes, AllFit, State, OnRequest, Changes, Closes, Forgets, Holds, OnMalformed, Opens, Replies, Spoils, Step, OnNotification, new_document, its_text, refused, invalid}
 use Rattle.sessions.proofs.Edits.{IsFit, becomes_fit}
 
 -- no answer publishes anything of any document
@@ -22,12 +21,11 @@ tree_quiet id None uri p = p
 tree_quiet id (Some text) uri p = p
 
 answer_quiet : (file : FileGrammar) (id : Ident) (o : Option DocumentState) (question : Question) (answer : Answer) → IsAnswer file id o question answer → (uri : List ℕ) → ¬ Publishes uri answer
-answer_quiet file id None question answer is = said_quiet answer _ is (λ uri p. p)
-answer_quiet file id (Some (is_lost loss)) question answer is = said_quiet answer _ is (λ uri p. p)
 answer_quiet file id (Some (is_open d)) its_text answer is = said_quiet answer _ is (λ uri p. p)
 answer_quiet file id (Some (is_open d)) its_tokens answer is = said_quiet answer _ is.2 (λ uri p. p)
 answer_quiet file id (Some (is_open d)) its_tree answer is = said_quiet answer _ is.2 (tree_quiet id _)
 answer_quiet file id (Some (is_open d)) question answer is = said_quiet answer _ is.2.2 (λ uri p. p)
+answer_quiet file id o question answer is = said_quiet answer _ is (λ uri p. p)
 
 count_quiet : (file : FileGrammar) (id : Ident) (o : Option DocumentState) (answer : Answer) → IsCount file id o answer → (uri : List ℕ) → ¬ Publishes uri answer
 count_quiet file id (Some (is_open d)) answer is = said_quiet answer _ is.2 (λ uri p. p)
@@ -147,12 +145,11 @@ module _ (name : Option (List ℕ)) (old : State) (answers : List Answer) (stop 
   shows_effect phase at d is s = silent s.0 s.2
 
   effect_of : (received : Received) → name ≡ named received → Step old received answers stop new → Effect name old answers stop new
-  effect_of unread is s = replied _ (λ uri p. p) s
   effect_of (refused (invalid id)) is s = replied _ (λ uri p. p) s
-  effect_of (refused d) is s = replied _ (λ uri p. p) s
   effect_of (accepted (request id call)) is s = asks_effect old.phase refl id call s
   effect_of (accepted (notification note)) is s = shows_effect old.phase refl note is s
   effect_of (accepted ignored) is s = silent s.0 s.2
+  effect_of received is s = replied _ (λ uri p. p) s
 
 pub step_effect : (old : State) (answers : List Answer) (stop : Option ℕ) (new : State) (received : Received) → Step old received answers stop new → Effect (named received) old answers stop new
 step_effect old answers stop new received s = effect_of (named received) old answers stop new received refl s

@@ -1,19 +1,17 @@
 -- Each run has a history of each document, and two sessions that receive the same about a document send the same of it.
-use Rattle.std.proofs.Common.{◌≡◌, ◌≢◌, ◌⊎◌, inl, inr, ⊎_elim, ℕ, List, [], ◌∷◌, ◌++◌, map, refl, sym, ap, subst, ◌∙◌, Option, Some, None, MatchOption}
-use Rattle.sessions.proofs.Common.{cases_eq, map-append, get, FileGrammar, Received, received_in, Answer, but_nodes, named, AreAlikeFor, SameFor, SendTheSame, EachDocumentIsAlone, EachRunHasAHistory, Event, event_in, Notes, History, HistoriesDecide, Run, State, first_state, Step}
+use Rattle.sessions.proofs.Common.{◌≡◌, ◌≢◌, ◌⊎◌, inl, inr, ⊎_elim, ℕ, List, [], ◌∷◌, ◌++◌, map, refl, sym, ap, subst, ◌∙◌, Option, Some, None, MatchOption, cases_eq, map-append, get, FileGrammar, Received, received_in, Answer, but_nodes, named, AreAlikeFor, SameFor, SendTheSame, EachDocumentIsAlone, EachRunHasAHistory, Event, event_in, Notes, History, HistoriesDecide, Run, State, first_state, Step}
 use Rattle.sessions.proofs.Fits.{step_keeps}
 
 -- ---- each run has a history
 
 same_or_not : (one two : List ℕ) → (one ≡ two) ⊎ (one ≢ two)
 same_or_not [] [] = inl refl
-same_or_not [] (b ∷ two) = inr (λ e. let f : ⊥ = cc in f)
-same_or_not (a ∷ one) [] = inr (λ e. let f : ⊥ = cc in f)
 same_or_not (a ∷ one) (b ∷ two) =
     ⊎_elim
     (λ e. ⊎_elim (λ es. inl (ap (λ x. x ∷ one) e ∙ ap (λ xs. b ∷ xs) es)) (λ apart. inr (λ all. apart (let same : one ≡ two = cc in same))) (same_or_not one two))
     (λ apart. inr (λ all. apart (let same : a ≡ b = cc in same)))
     (cases_eq a b)
+same_or_not one two = inr (λ e. let f : ⊥ = cc in f)
 
 named_or_not : (name : Option (List ℕ)) (uri : List ℕ) → (name ≡ Some uri) ⊎ (name ≢ Some uri)
 named_or_not None uri = inr (λ e. let f : ⊥ = cc in f)

@@ -1,6 +1,5 @@
 -- Each message makes some step, and each list of contents some run.
-use Rattle.std.proofs.Common.{◌≡◌, ℕ, ℤ, true, false, Bool, List, [], ◌∷◌, ◌++◌, length, refl, sym, subst, arith, Option, Some, None, option_map}
-use Rattle.sessions.proofs.Common.{chars, get, Stats, all_branches, AlwaysAnswers, Reading, IsReading, AreStats, ReportsLast, LastEdit, OpenDocument, fits, FileGrammar, Ident, Request, Question, its_text, its_tokens, its_tree, its_folds, its_selections, shutdown, about, stats, Notification, initialized, open_text, change_text, close, malformed, Unfit, unfit_open, unfit_change, unfit_close, request, notification, ignored, invalid, Received, unread, refused, accepted, TextChange, received_in, Answer, folds_reply, selections_reply, published_diagnostics, MalformedChange, IsAnswer, IsAnswerOf, IsCount, IsPublished, shown, Phase, Ready, DocumentState, is_open, is_lost, has_room, State, OnRequest, Changes, Closes, Holds, OnMalformed, Opens, Spoils, OnNotification, Step, new_document, Run, CanServe}
+use Rattle.sessions.proofs.Common.{◌≡◌, ℕ, ℤ, true, false, Bool, List, [], ◌∷◌, ◌++◌, length, refl, sym, subst, arith, Option, Some, None, option_map, chars, get, Stats, all_branches, AlwaysAnswers, Reading, IsReading, AreStats, ReportsLast, LastEdit, OpenDocument, fits, FileGrammar, Ident, Request, Question, its_text, its_folds, its_selections, shutdown, about, stats, Notification, initialized, open_text, change_text, close, malformed, Unfit, unfit_change, request, notification, Received, accepted, TextChange, received_in, Answer, folds_reply, selections_reply, published_diagnostics, MalformedChange, IsAnswer, IsAnswerOf, IsCount, IsPublished, shown, Phase, Ready, DocumentState, is_open, is_lost, has_room, State, OnRequest, Changes, Closes, Holds, OnMalformed, Opens, Spoils, OnNotification, Step, new_document, Run, CanServe, refused, invalid}
 use Rattle.sessions.proofs.Edits.{IsFit, becomes_fit, some_becomes}
 use Rattle.sessions.proofs.Effects.{opened_fit}
 use Rattle.sessions.proofs.Fits.{step_serves}
@@ -115,12 +114,10 @@ module _ (old : State) (can : CanServe old) where
   some_shows phase d = (_, _, _, (refl, refl, refl))
 
   some_step : (received : Received) → SomeStep (Step old received)
-  some_step unread = (_, _, _, (refl, refl, refl))
   some_step (refused (invalid id)) = (_, _, _, (refl, refl, refl))
   some_step (accepted (request id call)) = some_asks old.phase id call
   some_step (accepted (notification note)) = some_shows old.phase note
-  some_step (refused d) = (_, _, _, (refl, refl, refl))
-  some_step (accepted ignored) = (_, _, _, (refl, refl, refl))
+  some_step received = (_, _, _, (refl, refl, refl))
 
 pub some_run : (old : State) → CanServe old → (contents : List (List ℕ)) → (answers : List Answer) × (stop : Option ℕ) × (new : State) × Run old contents answers stop new
 some_run old can [] = ([], None, old, (refl, refl, refl))

@@ -1,6 +1,5 @@
 -- What a document is after changes of whose counts none are reported, and what it becomes by those after them.
-use Rattle.std.proofs.Common.{◌≡◌, ◌<◌, ◌+◌, ℕ, ℤ, Bool, true, false, cond, List, [], ◌∷◌, ◌++◌, length, map, take, drop, min, refl, sym, ap, subst, ◌∙◌, inl, inr, arith, Option, Some, None, append_assoc}
-use Rattle.sessions.proofs.Common.{min-eq_left, length-drop, map-append, take-append-drop, chars, Range, Stats, IsAbove, IsNext, Makes, ReportsLast, edit_of, number_after, number_of, FileGrammar, LastEdit, OpenDocument, fits, TextChange, change_view, Change, Encoding, Loss, TooLarge, MalformedChange, Memory, AreAlikeForNext, IsAfter, DocumentState, is_open, is_lost, edited, Becomes, IsLastAfter}
+use Rattle.sessions.proofs.Common.{◌≡◌, ◌<◌, ◌+◌, ℕ, ℤ, Bool, true, false, cond, List, [], ◌∷◌, ◌++◌, length, map, take, drop, min, refl, sym, ap, subst, ◌∙◌, inl, inr, arith, Option, Some, None, append_assoc, min-eq_left, length-drop, map-append, take-append-drop, chars, Range, IsAbove, IsNext, Makes, edit_of, number_after, number_of, FileGrammar, LastEdit, OpenDocument, fits, TextChange, change_view, Change, Encoding, Loss, TooLarge, MalformedChange, Memory, AreAlikeForNext, IsAfter, DocumentState, is_open, is_lost, edited, Becomes, IsLastAfter}
 use Rattle.sessions.proofs.Edits.{after, edited_after, edited_fitting}
 
 -- while numbers are left, the next one is above every stamp
@@ -24,12 +23,7 @@ module _ (encoding : Encoding) (file : FileGrammar) where
         new = is.new;
         was = is.was;
         is = is.is;
-        makes = record {
-          number = makes.number;
-          scanned = makes.scanned;
-          built = λ above. makes.built other_above;
-          all_built = λ never. absurd (never one_above);
-        };
+        makes = record { number = makes.number; scanned = makes.scanned; built = λ above. makes.built other_above; all_built = λ never. absurd (never one_above) };
       }
 
   last_alike : (t : List ℕ) (c : TextChange) (cs : List TextChange) (one other last : Option LastEdit) → AreAlikeForNext one other

@@ -1,4 +1,5 @@
 -- What the proofs of this crate cite of definitions, of types and of other crates, passed on from one place. Declares nothing.
+pub use Rattle.std.proofs.Common.{◌++◌, ◌+◌, ◌-◌, ◌<◌, ◌↔◌, ◌∙◌, ◌∷◌, ◌≡◌, ◌≢◌, ◌≤◌, ◌⊎◌, All, AllPairs, Bool, Contains, IfSome, List, MatchOption, None, Option, Some, [], ap, append_assoc, arith, drop, false, get_or-set_other, if◌then◌else◌, inl, inr, is_some, length, length-append, option_map, refl, rules, slice_get, slice_index, slice_index_or, slice_set, subst, suc, sym, take, true, zero, ℕ, ⊎_elim}
 pub use Rattle.std.specs.List.{list_any}
 pub use Rattle.std.specs.List.Sorted.{IsStrictlyIncreasing}
 pub use Rattle.std.proofs.Math.Dec.{eqb}
@@ -13,7 +14,7 @@ pub use Rattle.std.proofs.lemmas.Map.Steps.{length-le_from_distinct_below}
 pub use Rattle.std.proofs.lemmas.Result.{IfErr-weaker, IfOk-weaker}
 pub use Rattle.definitions.proofs.Ordered.{Contains-cases, Contains-first, Contains-later, Contains-none}
 pub use Rattle.definitions.specs.Derivations.{IsLr1, first}
-pub use Rattle.definitions.specs.Items.{CallsFor, HasItem, HasMoreSetsThan, HasMove, HasNoConflict, HaveSameItems, IsConflict, IsValid, Item as LrItem, Move as LrMove, Shift as LrShift, kind_of}
+pub use Rattle.definitions.specs.Items.{Accept, CallsFor, HasItem, HasMoreSetsThan, HasMove, HasNoConflict, HaveSameItems, IsConflict, IsValid, Item as LrItem, Move as LrMove, Reduce, Shift as LrShift, kind_of}
 pub use Rattle.definitions.specs.Sentences.{AllProductive, FaultAt, FaultAtEnd, HasTree, IsExpected, IsProductive, IsSentence, IsTreeOf, IsVerdict, IsViable, Verdict}
 pub use Rattle.definitions.specs.Trees.{AreTrees, Branch, Cons, Forest, Grammar, HasDistinctProductions, HaveRoots, IsTree, Leaf, Nil, Production, Tree, yield, yields}
 pub use Rattle.definitions.specs.declared.Kind.{Kind}

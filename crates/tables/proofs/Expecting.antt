@@ -1,6 +1,5 @@
 -- The moves of a state are what is expected.
-use Rattle.std.proofs.Common.{◌≡◌, ◌<◌, ◌≤◌, ◌+◌, ◌↔◌, Bool, true, false, ℕ, suc, List, ◌∷◌, ◌++◌, [], Option, Some, None, length, drop, slice_index_or, refl, sym, ap, ◌∙◌, subst, inl, inr, arith, is_some, if◌then◌else◌}
-use Rattle.tables.proofs.Common.{cases_lt, drop_all, get_or-drop, get_or_past, drop-cons, Kind, Token, Symbol, Grammar, Tree, HaveRoots, HasMove, IsSentence, IsViable, IsStackAfter, StackHasMove, move_iff_viable, move_iff_sentence, roots_unique, Move, plain, AreExpected, in_file_order, rules_with_move, IsAction, IsAccepted}
+use Rattle.tables.proofs.Common.{◌≡◌, ◌<◌, ◌≤◌, ◌+◌, ◌↔◌, Bool, true, false, ℕ, suc, List, ◌∷◌, ◌++◌, [], Option, Some, None, length, drop, slice_index_or, refl, sym, ap, ◌∙◌, subst, inl, inr, arith, is_some, if◌then◌else◌, cases_lt, drop_all, get_or-drop, get_or_past, drop-cons, Kind, Token, Symbol, Grammar, Tree, HaveRoots, HasMove, IsSentence, IsViable, IsStackAfter, StackHasMove, move_iff_viable, move_iff_sentence, roots_unique, Move, plain, AreExpected, in_file_order, rules_with_move, IsAction, IsAccepted}
 use Rattle.tables.proofs.NumbersInOrder.{AreThose, none_there, pass_over, put_first}
 
 -- the rules with a move, from one place of a row on
@@ -83,10 +82,6 @@ module _ (g : Grammar) (accepted : IsAccepted g) (x : List Kind) (stack : List T
         let shown = those_shown (λ a. IsViable g (x ++ (Token a ∷ []))) 0 rules_row rule_shown in (
           rules_with_move 0 rules_row,
           is_some (slice_index_or row 0 None),
-          record {
-            in_order = shown.in_order;
-            each = λ a. (shown.only a, λ v. shown.all a (omega arith) (viable_within a v) v);
-            ends = end_expected (slice_index_or row 0 None) end;
-          },
+          record { in_order = shown.in_order; each = λ a. (shown.only a, λ v. shown.all a (omega arith) (viable_within a v) v); ends = end_expected (slice_index_or row 0 None) end },
           refl,
         )

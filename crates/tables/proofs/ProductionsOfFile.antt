@@ -1,6 +1,5 @@
 -- The productions of a grammar file are sound.
-use Rattle.std.proofs.Common.{◌≡◌, ℕ, length, slice_index_or, take, refl, sym, ap, ◌∙◌, arith}
-use Rattle.tables.proofs.Common.{take-length, Token, Symbol, Terminal, Nonterminal, IsProductive, AllProductive, Leaf, Shape, IsKnown, IsSound, FileGrammar, IsUsable, IsGrammar}
+use Rattle.tables.proofs.Common.{◌≡◌, ℕ, length, slice_index_or, take, refl, sym, ap, ◌∙◌, arith, take-length, Token, Symbol, Terminal, Nonterminal, IsProductive, AllProductive, Leaf, Shape, IsKnown, IsSound, FileGrammar, IsUsable, IsGrammar}
 
 -- the grammar of a file with its first `n` productions
 abbrev pub first_productions : FileGrammar → ℕ → Shape
@@ -27,10 +26,7 @@ module _ (f : FileGrammar) (h : IsGrammar f) where
   symbol_productive (Nonterminal n) u = h.productive n u
 
   all_productive : AllProductive f.grammar
-  all_productive = record {
-    start = h.productive f.grammar.start h.start;
-    each = λ p n right k i d l. symbol_productive (slice_index_or right i d) (h.right p n right k i d l);
-  }
+  all_productive = record { start = h.productive f.grammar.start h.start; each = λ p n right k i d l. symbol_productive (slice_index_or right i d) (h.right p n right k i d l) }
 
   pub shape_sound : IsSound shape
   shape_sound =

@@ -1,8 +1,6 @@
 -- Every prefix with an item leads to a state, whose moves decide what its items call for.
-use Rattle.std.proofs.Common.{◌≡◌, ◌⊎◌, ℕ, List, [], ◌∷◌, ◌++◌, Option, Some, None, refl, inl, inr}
-use Rattle.tables.proofs.Common.{Kind, Token, Invalid, Symbol, Terminal, Nonterminal, Grammar, LrItem, LrMove, HasMove, HasItem, kind_of, ByRules, Start, Goto, Close, rules_valid, valid_rules, Move, plain, AreMovesDecided, Sets, IsStateOf, IsAction, AreTables, move_at, goto_at}
-use Rattle.definitions.specs.Items.{Shift, Reduce, Accept}
-use Rattle.tables.specs.declared.decisions.Move.TheVariants.{Shift as ToShift, Reduce as ToReduce, Accept as ToAccept}
+use Rattle.tables.proofs.Common.{◌≡◌, ◌⊎◌, ℕ, List, [], ◌∷◌, ◌++◌, Option, Some, None, refl, inl, inr, Kind, Token, Invalid, Symbol, Terminal, Nonterminal, Grammar, LrItem, LrMove, HasMove, HasItem, kind_of, ByRules, Start, Goto, Close, rules_valid, valid_rules, Move, plain, AreMovesDecided, Sets, IsStateOf, IsAction, AreTables, move_at, goto_at, LrShift as Shift, Reduce, Accept, Shift as ToShift}
+use Rattle.tables.specs.declared.decisions.Move.TheVariants.{Reduce as ToReduce, Accept as ToAccept}
 use Rattle.tables.proofs.RowsOfPrefix.{start_state, right, shift_state, goes}
 
 no_lookahead : (look : Option ℕ) → Some Invalid ≡ kind_of look → ⊥

@@ -1,8 +1,6 @@
 -- Where it is decided what items call for, each list of kinds has a verdict.
-use Rattle.std.proofs.Common.{◌≡◌, ◌⊎◌, ℕ, List, [], ◌∷◌, ◌++◌, Option, Some, None, length, refl, sym, subst, inl, inr, ⊎_elim, append_assoc}
-use Rattle.tables.proofs.Common.{append-nil, Kind, Token, Symbol, Terminal, Grammar, Tree, Leaf, HaveRoots, Verdict, HasTree, FaultAt, FaultAtEnd, IsVerdict, IsTreeOf, HasMove, HasItem, Start, Stay, IsStackAfter, StackHasMove, stack_exists, rules_valid, roots-append, move_iff_viable, move_iff_sentence, roots_unique, verdict_at_kind, verdict_at_end, AreMovesDecided, IsAccepted}
+use Rattle.tables.proofs.Common.{◌≡◌, ◌⊎◌, ℕ, List, [], ◌∷◌, ◌++◌, Option, Some, None, length, refl, sym, subst, inl, inr, ⊎_elim, append_assoc, append-nil, Kind, Token, Symbol, Terminal, Grammar, Tree, Leaf, HaveRoots, Verdict, HasTree, FaultAt, FaultAtEnd, IsVerdict, IsTreeOf, HasMove, HasItem, Start, Stay, IsStackAfter, StackHasMove, stack_exists, rules_valid, roots-append, move_iff_viable, move_iff_sentence, roots_unique, verdict_at_kind, verdict_at_end, AreMovesDecided, IsAccepted, LrShift as Shift}
 use Rattle.tables.proofs.MovesOfState.{shift_item}
-use Rattle.definitions.specs.Items.{Shift}
 
 module _ (g : Grammar) where
   -- after a token rule that the items call for, an item is valid

@@ -1,6 +1,5 @@
 -- Bytes in ASCII at the start of a text are its first characters.
-use Rattle.std.proofs.Common.{arith, sym, ap, subst, ◌∙◌, ◌≡◌, ◌<◌, ◌≤◌, ℕ, zero, suc, ◌+◌, All, List, ◌++◌, length, length-append, take, drop, slice_index_or, append_assoc}
-use Rattle.text.proofs.Common.{chars, IsAscii, IsCharBoundary, IsUtf8, drop_at, get_or-take, length-take, take_at, take-append-drop, All-get_or, chars-append, chars-IsAscii, IsCharBoundary-after_ascii, IsCharBoundary-start, IsUtf8-from_ascii, IsAscii-from_all}
+use Rattle.text.proofs.Common.{arith, sym, ap, subst, ◌∙◌, ◌≡◌, ◌<◌, ◌≤◌, ℕ, zero, suc, ◌+◌, All, List, ◌++◌, length, length-append, take, drop, slice_index_or, append_assoc, chars, IsAscii, IsCharBoundary, IsUtf8, drop_at, get_or-take, length-take, take_at, take-append-drop, All-get_or, chars-append, chars-IsAscii, IsCharBoundary-after_ascii, IsCharBoundary-start, IsUtf8-from_ascii, IsAscii-from_all}
 
 -- the first `n` bytes of `bs` are in ASCII, and `rest` stands after all of them
 module _ (bs : List ℕ) (n : ℕ) (within : n ≤ length bs) (all : All (λ x. x < 128) (take n bs)) where

@@ -1,5 +1,7 @@
 -- What the proofs of this crate cite of definitions, of types and of other crates, passed on from one place. Declares nothing.
-pub use Rattle.std.specs.Prelude.{Bool, false, nat_lt, not, slice_index, suc, zero, ◌*◌, ◌==◌, ◌||◌, ◌⊎◌}
+pub use Rattle.std.proofs.Common.{◌++◌, ◌+◌, ◌-◌, ◌<◌, ◌∙◌, ◌∷◌, ◌≡◌, ◌≤◌, All, List, None, Option, Some, [], ap, append_assoc, arith, cond, drop, encode_utf8_all, inl, inr, is_some, length, length-append, length-drop, refl, rules, slice_get, slice_index_or, string_bytes, subst, sym, take, true, ℕ}
+pub use Rattle.std.proofs.lemmas.Grind.{common_steps}
+pub use Rattle.std.specs.Prelude.{◌*◌, ◌==◌, ◌||◌, ◌⊎◌, Bool, false, nat_lt, not, slice_index, suc, zero}
 pub use Rattle.std.specs.Iterator.{YieldsFirst}
 pub use Rattle.std.specs.List.{concat, prefix_len}
 pub use Rattle.std.specs.Str.{IsAscii, IsCharBoundary, IsUtf8, chars}

@@ -163,10 +163,7 @@ abbrev run : Goes_on alone [] (Leaf (Token 0) ∷ []) (tree ∷ []) []
 run = Takes_token (Token 0) [] At_token shift (Makes (tree ∷ []) AtEnd Nothing_left tt reduce Ends)
 
 prepared : IsPrepared put_in [] (Leaf (Token 0) ∷ [])
-prepared = record {
-  from_old = λ lefts p us w nonempty. absurd (not_in_leaf w (Token 0) p us refl refl);
-  all_old = λ place p us k. absurd (nowhere k.stood refl);
-}
+prepared = record { from_old = λ lefts p us w nonempty. absurd (not_in_leaf w (Token 0) p us refl refl); all_old = λ place p us k. absurd (nowhere k.stood refl) }
 
 nothing_in : {l : List Stamped} {lefts : List Tree} {p born : ℕ} {us : StampedForest} → StampedIn l lefts p born us → l ≡ [] → ⊥
 nothing_in StampedTop e = cc e

@@ -1,4 +1,5 @@
 -- What the proofs of this crate cite of definitions, of types and of other crates, passed on from one place. Declares nothing.
+pub use Rattle.std.proofs.Common.{◌++◌, ◌+◌, ◌-◌, ◌<◌, ◌∙◌, ◌∷◌, ◌≡◌, ◌≢◌, ◌≤◌, Bool, IfSome, List, [], ap, append_assoc, arith, cond, count_by, drop, false, get_or, inl, inr, length, length-append, length-take, map, min, refl, replicate, rules, set, slice_get, subst, suc, sym, take, take-append-drop, true, zero, ℕ}
 pub use Rattle.std.specs.List.{SwappedAt}
 pub use Rattle.std.proofs.Math.Seq.{get_or-append_seam}
 pub use Rattle.std.proofs.lemmas.Bool.{cases_lt}

@@ -1,6 +1,5 @@
 -- No more nodes are marked than the trees of the roots have branches.
-use Rattle.std.proofs.Common.{◌≡◌, ℕ, ◌+◌, ◌<◌, ◌≤◌, zero, suc, Bool, true, false, List, [], ◌∷◌, cond, count_by, length, drop, get_or, set, replicate, refl, ap, arith}
-use Rattle.trees.proofs.Common.{drop_more, sum_by-cons, all_branches, branches, branches_of, Stamped, StampedLeaf, Invalid, plain, plain_all, plain_trees, NodeId, Child, Token, Node, Cell, AreBelow, IsStore, blank, forest_of, nodes, sizes, tree, tree_of, trees_from, trees_of, mark_all, owed}
+use Rattle.trees.proofs.Common.{◌≡◌, ℕ, ◌+◌, ◌<◌, ◌≤◌, zero, suc, Bool, true, false, List, [], ◌∷◌, cond, count_by, length, drop, get_or, set, replicate, refl, ap, arith, drop_more, sum_by-cons, all_branches, branches, branches_of, Stamped, StampedLeaf, Invalid, plain, plain_all, plain_trees, NodeId, Child, Token, Node, Cell, AreBelow, IsStore, blank, forest_of, nodes, sizes, tree, tree_of, trees_from, trees_of, mark_all, owed}
 use Rattle.trees.proofs.Cells.{from-length, store_at}
 
 branches-forest : (ts : List Stamped) (cs : List Child) → branches_of (plain_all (forest_of ts cs)) ≡ all_branches (plain_trees (trees_of ts cs))
@@ -8,11 +7,9 @@ branches-forest ts [] = refl
 branches-forest ts (c ∷ cs) = ap (λ n. branches (plain (tree_of ts c)) + n) (branches-forest ts cs)
 
 pub owed_none : (n : ℕ) (ts : List Stamped) (m : ℕ) → owed n ts (replicate m false) ≡ 0
-owed_none zero ts zero = refl
 owed_none zero ts (suc m) = omega (arith, owed_none zero ts m)
-owed_none (suc n) [] m = refl
-owed_none (suc n) (t ∷ ts) zero = refl
 owed_none (suc n) (t ∷ ts) (suc m) = omega (arith, owed_none n ts m)
+owed_none n ts m = refl
 
 -- one more mark costs the branches of its tree at most
 pub owed_set : (n : ℕ) (ts : List Stamped) (marks : List Bool) (i : ℕ) → i < n → owed n ts (set marks i true) ≤ owed n ts marks + branches (plain (get_or ts i (StampedLeaf Invalid)))

@@ -1,6 +1,5 @@
 -- The spans of children in a store.
-use Rattle.std.proofs.Common.{◌≡◌, ◌+◌, ◌^◌, ◌<◌, ◌≤◌, min, ℕ, true, false, List, [], ◌∷◌, ◌++◌, length, refl, sym, ap, ◌∙◌, subst, arith, length-append, Option, Some, None, MatchOption, IfSome}
-use Rattle.views.proofs.Common.{trees, yield, yields, all_kinds, Stamped, StampedBranch, plain_all, plain_trees, kinds-trees, Child, NodeId, Cell, most, tree, tree_of, trees_of, trees_from, forest_of, IsBelow, AreBelow, all_below-more, Found, Point, trees_of_roots, is_around, spans_of, spans_in, spans_all, branch_at, IsBranchAround}
+use Rattle.views.proofs.Common.{◌≡◌, ◌+◌, ◌^◌, ◌<◌, ◌≤◌, min, ℕ, true, false, List, [], ◌∷◌, ◌++◌, length, refl, sym, ap, ◌∙◌, subst, arith, length-append, Option, Some, None, MatchOption, IfSome, trees, yield, yields, all_kinds, Stamped, StampedBranch, plain_all, plain_trees, kinds-trees, Child, NodeId, Cell, most, tree, tree_of, trees_of, trees_from, forest_of, IsBelow, AreBelow, all_below-more, Found, Point, trees_of_roots, is_around, spans_of, spans_in, spans_all, branch_at, IsBranchAround}
 use Rattle.definitions.specs.TreeEdits.{plain}
 use Rattle.trees.specs.declared.store.Child.TheVariants.{Token, Node}
 use Rattle.views.proofs.BranchesAround.{spans_trees, around_span, around_none, only_first}
@@ -73,13 +72,7 @@ module _ (cells : List Cell) (children : List Child) (from : ℕ) (point : Point
               (trees_of_roots cells children) ≡ spans_of point.reached point.first start (plain (tree cells d))
               → MatchOption (branch_at d start (start + n)) (spans_all point.reached point.first from (trees_of_roots cells children) ≡ []) (λ b. IsBranchAround cells children from point b)
           go (Token kind) among counted spans = spans
-          go (Node id) among counted spans = record {
-            below = λ m h. node_below m id (among m h);
-            around = e;
-            to = ap (λ m. start + m) counted;
-            fits = end_fits;
-            spans = spans;
-          }
+          go (Node id) among counted spans = record { below = λ m h. node_below m id (among m h); around = e; to = ap (λ m. start + m) counted; fits = end_fits; spans = spans }
 
 -- the spans of what is to come
 abbrev pub pending : List Cell → Point → Option Found → List (ℕ × ℕ)

@@ -1,4 +1,8 @@
 -- What the proofs of this crate cite of definitions, of types and of other crates, passed on from one place. Declares nothing.
+pub use Rattle.std.proofs.Common.{◌&&◌, ◌++◌, ◌+◌, ◌-◌, ◌<◌, ◌==◌, ◌^◌, ◌↔◌, ◌∙◌, ◌∷◌, ◌≡◌, ◌≢◌, ◌≤◌, ◌⊎◌, All, AllPairs, Bool, Contains, Err, IfOk, IfSome, IsSomeAnd, IsTrue, List, MatchOption, MatchResult, None, Ok, Option, Result, Some, [], ap, append_assoc, arith, cond, count_by, drop, encode_utf8_all, false, get_or, if◌then◌else◌, inl, inr, length, length-append, length-drop, lit<, map, nat_eq, nat_lt, option_map, refl, reverse, rules, slice_get, slice_index_or, string_bytes, subst, subst₂, suc, sym, take, take-suc, true, zero, ℕ, ⊎_elim}
+pub use denote.Shadow.{shadow}
+pub use denote.Text.{Utf8}
+unfoldable pub use lib.Utf8.{encode}
 pub use Rattle.std.specs.Prelude.{codes, flat_map, min, nat_le, not, slice_index}
 pub use Rattle.std.specs.Cmp.{IsEquivalence, IsTotalOrder, both_tied, nat_eq_equiv, unsigned_tied}
 pub use Rattle.std.specs.List.{between, dedup, push}
@@ -31,7 +35,8 @@ pub use Rattle.definitions.proofs.PastTheEnd.{position-min}
 pub use Rattle.definitions.proofs.Significant.{map-significant}
 pub use Rattle.definitions.proofs.TokensLead.{chars, chars-cons}
 pub use Rattle.definitions.proofs.TokensUnique.{IsPiece-inside}
-pub use Rattle.definitions.specs.Answers.{AreCovering, AreFolds, Covers, Encloses, IsBefore, Node, SpansLines, end_of, kind_name, listed, name_or_end, range_of, shortened, span}
+pub use Rattle.definitions.specs.Answers.{AreCovering, AreFolds, Covers, Diagnostic, Encloses, IsBefore, Node, SpansLines, end_of, fault_span, kind_name, listed, name_or_end, range_of, shortened, span}
+unfoldable pub use Rattle.definitions.specs.Answers.{message}
 pub use Rattle.definitions.specs.DocumentNodes.{IsNodeOf, tree_texts}
 pub use Rattle.definitions.specs.Nodes.{Below, Past, StandsIn, Top, all_branches, branches, place_of}
 pub use Rattle.definitions.specs.Text.{break_ends}

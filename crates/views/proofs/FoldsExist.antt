@@ -1,6 +1,5 @@
 -- Trees have a list of folds: those of their parts, in order.
-use Rattle.std.proofs.Common.{arith, refl, sym, subst, inl, inr, ⊎_elim, ◌∙◌, ◌≡◌, ◌⊎◌, ◌↔◌, ℕ, suc, ◌+◌, ◌<◌, ◌≤◌, Bool, true, false, List, [], ◌∷◌, length, slice_index_or, slice_get, Option, Some, None, AllPairs, Contains, IsTrue}
-use Rattle.views.proofs.Common.{cases_lt, Contains-get_or, AllPairs-cons, line_of, Placed, Grammar, Production, Tree, Forest, Leaf, Branch, Nil, Cons, trees, yield, yields, Node, IsBefore, SpansLines, AreFolds, span, IsNodeOf, Contains-first, Contains-later, Contains-cases, Contains-none, production_unique, IsNodeFrom}
+use Rattle.views.proofs.Common.{arith, refl, sym, subst, inl, inr, ⊎_elim, ◌∙◌, ◌≡◌, ◌⊎◌, ◌↔◌, ℕ, suc, ◌+◌, ◌<◌, ◌≤◌, Bool, true, false, List, [], ◌∷◌, length, slice_index_or, slice_get, Option, Some, None, AllPairs, Contains, IsTrue, cases_lt, Contains-get_or, AllPairs-cons, line_of, Placed, Grammar, Production, Tree, Forest, Leaf, Branch, Nil, Cons, trees, yield, yields, Node, IsBefore, SpansLines, AreFolds, span, IsNodeOf, Contains-first, Contains-later, Contains-cases, Contains-none, production_unique, IsNodeFrom}
 use Rattle.views.proofs.NodesFrom.{IsBranchAt, nodes_from_start, nodes_from_none, nodes_from_leaf, nodes_from_branch, nodes_from_first}
 
 -- pairs in order, each once: those that are such
@@ -57,12 +56,7 @@ inserted p (q ∷ qs) up = go (which_first p q) (inserted p qs (rest_ascends q q
       only = λ y c. Contains-cases p (q ∷ qs) y c;
       all = λ y h. ⊎_elim (λ e. subst (Contains (p ∷ q ∷ qs)) e (Contains-first p (q ∷ qs))) (λ c. Contains-later p (q ∷ qs) y c) h;
     }
-    go (inr (inl e)) r = record {
-      pairs = q ∷ qs;
-      ascending = up;
-      only = λ y c. inr c;
-      all = λ y h. ⊎_elim (λ f. subst (Contains (q ∷ qs)) (sym e ∙ f) (Contains-first q qs)) (λ c. c) h;
-    }
+    go (inr (inl e)) r = record { pairs = q ∷ qs; ascending = up; only = λ y c. inr c; all = λ y h. ⊎_elim (λ f. subst (Contains (q ∷ qs)) (sym e ∙ f) (Contains-first q qs)) (λ c. c) h }
     go (inr (inr b)) r = record {
       pairs = q ∷ r.pairs;
       ascending = led q r.pairs (λ y c. ⊎_elim (λ e. subst (IsBefore q) e b) (λ d. before_rest q qs y up d) (r.only y c)) r.ascending;

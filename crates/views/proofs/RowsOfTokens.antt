@@ -1,7 +1,6 @@
 -- The rows of tokens, listed one after another.
-use Rattle.views.proofs.Common.{IsUtf8, map-append, Encoding, position, kind_name, range_of, position-min, encodes-chars, Place, FileGrammar, Token, kind_in, in_utf8, rows_from, rows_of, Range}
+use Rattle.views.proofs.Common.{IsUtf8, map-append, Encoding, position, kind_name, range_of, position-min, encodes-chars, Place, FileGrammar, Token, kind_in, in_utf8, rows_from, rows_of, Range, arith, sym, ap, subst, ◌∙◌, append_assoc, ◌≡◌, ◌<◌, ℕ, suc, ◌+◌, min, take, slice_index_or, List, [], ◌∷◌, ◌++◌, length, map, encode_utf8_all, take-suc}
 use Rattle.std.specs.Str.{chars}
-use Rattle.std.proofs.Common.{arith, sym, ap, subst, ◌∙◌, append_assoc, ◌≡◌, ◌<◌, ℕ, suc, ◌+◌, min, take, slice_index_or, List, [], ◌∷◌, ◌++◌, length, map, encode_utf8_all, take-suc}
 
 -- what a row says, with its name as characters in place of bytes
 abbrev pub in_characters : List ℕ × Range → List ℕ × Range

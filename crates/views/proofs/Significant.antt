@@ -1,6 +1,5 @@
 -- The significant tokens of a list at their places.
-use Rattle.std.proofs.Common.{arith, refl, sym, ap, subst, ◌∙◌, ◌≡◌, ℕ, zero, suc, ◌+◌, Bool, true, false, List, [], ◌∷◌, length, map, take, count_by, slice_get, Some, IsSomeAnd, All, if◌then◌else◌}
-use Rattle.views.proofs.Common.{length-map, All-head, All-tail, Kind, end_of, Placed, is_skipped, placed, significant, Token, characters, is_significant, kind_in, plain, significant_kinds, characters-cons, count-cons, length-kinds}
+use Rattle.views.proofs.Common.{arith, refl, sym, ap, subst, ◌∙◌, ◌≡◌, ℕ, zero, suc, ◌+◌, Bool, true, false, List, [], ◌∷◌, length, map, take, count_by, slice_get, Some, IsSomeAnd, All, if◌then◌else◌, length-map, All-head, All-tail, Kind, end_of, Placed, is_skipped, placed, significant, Token, characters, is_significant, kind_in, plain, significant_kinds, characters-cons, count-cons, length-kinds}
 
 -- the token is marked where its kind is skipped
 abbrev pub IsMarked : List Bool → Token → Type 0

@@ -1,8 +1,6 @@
 -- The significant tokens of a text stand apart, in order, and an offset has its two places among them.
-use Rattle.std.proofs.Common.{arith, subst, inl, inr, cond, length-drop, ◌≡◌, ℕ, zero, suc, ◌+◌, ◌<◌, ◌≤◌, ◌⊎◌, ◌↔◌, Bool, true, false, not, List, [], ◌∷◌, length, take, drop, slice_index_or, All, AllPairs}
-use Rattle.views.proofs.Common.{cases_lt, All-nil, All-cons, All-weaker, AllPairs-cons, Invalid, Expression, Placed, AreTokens, placed, significant, is_skipped, kinds, end_of, chars-cons, IsPiece-inside, IsAround, starts_at, ends_at, chars}
+use Rattle.views.proofs.Common.{arith, subst, inl, inr, cond, length-drop, ◌≡◌, ℕ, zero, suc, ◌+◌, ◌<◌, ◌≤◌, ◌⊎◌, ◌↔◌, Bool, true, false, not, List, [], ◌∷◌, length, take, drop, slice_index_or, All, AllPairs, cases_lt, All-nil, All-cons, All-weaker, AllPairs-cons, Invalid, Expression, Placed, AreTokens, placed, significant, is_skipped, kinds, end_of, chars-cons, IsPiece-inside, IsAround, starts_at, ends_at, chars, PlainToken as Token}
 use Rattle.std.proofs.lemmas.List.{get_or-map}
-use Rattle.definitions.specs.Tokens.{Token}
 use Rattle.views.proofs.Nested.{AllPairs-none}
 
 -- a token that isn't empty, from offset o on and up to offset e

@@ -1,7 +1,5 @@
 -- The offsets of the spans around an offset are those of the nodes that cover it.
-use Rattle.views.proofs.Common.{dedup, IsEquivalence, nat_eq_equiv, and_parts, and_from, and_cases, eqb-true, eqb-false, eq-eqb, cases_lt, cases_order, lt-ltb, le-ltb, get_or-map, length-map, All-head, All-tail, All-map, All-weaker, All-contains, AllPairs-cons, Contains-dedup, Contains-from_dedup, Symbol, Expression, Node, AreCovering, Covers, Encloses, shortened, span, IsNodeOf, Placed, AreTokens, placed, significant, Grammar, Tree, HaveRoots, all_kinds, Contains-first, Contains-later, Contains-cases, Contains-none, IsAround, starts_at, ends_at, offsets_of, spans_all, is_same, inside, IsSpanOf, Holds}
-use Rattle.std.proofs.Common.{arith, refl, sym, ap, subst, inl, inr, ◌∙◌, cond, ◌≡◌, ◌≢◌, ℕ, suc, ◌+◌, ◌-◌, ◌<◌, ◌≤◌, ◌⊎◌, ◌&&◌, ◌==◌, Bool, true, false, List, [], ◌∷◌, length, map, drop, All, AllPairs, Contains}
-use Rattle.definitions.specs.Tokens.{Token}
+use Rattle.views.proofs.Common.{dedup, IsEquivalence, nat_eq_equiv, and_parts, and_from, and_cases, eqb-true, eqb-false, eq-eqb, cases_lt, cases_order, lt-ltb, le-ltb, get_or-map, length-map, All-head, All-tail, All-map, All-weaker, All-contains, AllPairs-cons, Contains-dedup, Contains-from_dedup, Symbol, Expression, Node, AreCovering, Covers, Encloses, shortened, span, IsNodeOf, Placed, AreTokens, placed, significant, Grammar, Tree, HaveRoots, all_kinds, Contains-first, Contains-later, Contains-cases, Contains-none, IsAround, starts_at, ends_at, offsets_of, spans_all, is_same, inside, IsSpanOf, Holds, arith, refl, sym, ap, subst, inl, inr, ◌∙◌, cond, ◌≡◌, ◌≢◌, ℕ, suc, ◌+◌, ◌-◌, ◌<◌, ◌≤◌, ◌⊎◌, ◌&&◌, ◌==◌, Bool, true, false, List, [], ◌∷◌, length, map, drop, All, AllPairs, Contains, PlainToken as Token}
 use Rattle.views.proofs.NodesFrom.{nodes_from_start, nodes_from_within}
 use Rattle.views.proofs.Nested.{All-each, AllPairs-none, AllPairs-head, AllPairs-tail, same_span, nested_dedup}
 use Rattle.views.proofs.BranchesAround.{IsSpanFrom, span_all, node_all, nested_all}
@@ -21,11 +19,7 @@ same_itself : (r : ℕ × ℕ) → is_same r r ≡ true
 same_itself r = and_from (r.0 == r.0) (r.1 == r.1) (eq-eqb r.0 r.0 refl) (eq-eqb r.1 r.1 refl)
 
 same_equiv : IsEquivalence is_same
-same_equiv = record {
-  refl = same_itself;
-  symm = λ r s. λ i. nat_eq_equiv.symm r.0 s.0 i && nat_eq_equiv.symm r.1 s.1 i;
-  congr = λ r s t e. ap (λ x. is_same x t) (same_shows r s e);
-}
+same_equiv = record { refl = same_itself; symm = λ r s. λ i. nat_eq_equiv.symm r.0 s.0 i && nat_eq_equiv.symm r.1 s.1 i; congr = λ r s t e. ap (λ x. is_same x t) (same_shows r s e) }
 
 Contains-map : {X Y : Type 0} (f : X → Y) (xs : List X) (x : X) → Contains xs x → Contains (map f xs) (f x)
 Contains-map f xs x c = (c.0, omega (arith, c.1, length-map xs f), get_or-map f xs c.0 x ∙ ap f c.2)

@@ -1,9 +1,7 @@
 -- The walk over the nodes of a store that gathers the lines of those that fold.
-use Rattle.views.proofs.Common.{min, get_or-append_seam, map-append, get_or_append_left, All-nil, All-push, get_or_from_slice_get, slice_get_within, Kind, Symbol, Forest, Branch, HaveRoots, HasProduction, trees, yield, yields, all_kinds, left_of, StampedBranch, StampedForest, plain_all, FileGrammar, NodeId, Child, Cell, most, tree, trees_from, forest_of, IsBelow, AreBelow, all_below-more, SpanLines, AreAscending, IsFold, AreSpanned, with_own, IsNodeFrom, trees_of_roots, Siblings}
-use Rattle.std.proofs.Common.{◌≡◌, ℕ, ◌+◌, ◌<◌, ◌≤◌, Bool, false, List, [], ◌∷◌, ◌++◌, length, map, slice_index_or, All, arith, refl, sym, ap, subst, subst₂, ◌∙◌, length-append}
+use Rattle.views.proofs.Common.{min, get_or-append_seam, map-append, get_or_append_left, All-nil, All-push, get_or_from_slice_get, slice_get_within, Kind, Symbol, Forest, Branch, HaveRoots, HasProduction, trees, yield, yields, all_kinds, left_of, StampedBranch, StampedForest, plain_all, FileGrammar, NodeId, Child, Cell, most, tree, trees_from, forest_of, IsBelow, AreBelow, all_below-more, SpanLines, AreAscending, IsFold, AreSpanned, with_own, IsNodeFrom, trees_of_roots, Siblings, ◌≡◌, ℕ, ◌+◌, ◌<◌, ◌≤◌, Bool, false, List, [], ◌∷◌, ◌++◌, length, map, slice_index_or, All, arith, refl, sym, ap, subst, subst₂, ◌∙◌, length-append, Node as Place}
 use Rattle.definitions.specs.TreeEdits.{plain}
 use Rattle.trees.specs.declared.store.Child.TheVariants.{Token, Node}
-use Rattle.definitions.specs.Answers.{Node as Place}
 use Rattle.views.proofs.Children.{forest_trees}
 use Rattle.views.proofs.FoldSteps.{Ahead, IsGathered, work, gathered_none, all_gathered, gathered_end, gathered_past, gathered_into, first_within, left_side, smaller_past, smaller_into, smaller_end, free_leaf, free_line, own_kept, own_only, all_own}
 

@@ -1,5 +1,4 @@
-use Rattle.std.proofs.Common.{rules}
-use Rattle.patterns.proofs.Common.{chars_from_encodes}
+use Rattle.patterns.proofs.Common.{rules, chars_from_encodes}
 use Rattle.patterns.proofs.characters_of.Goals as goal
 
 pub returns : goal.returns

@@ -1,5 +1,4 @@
-use Rattle.std.proofs.Common.{sym, ◌∙◌, rules, arith}
-use Rattle.patterns.proofs.Common.{chars, writing}
+use Rattle.patterns.proofs.Common.{sym, ◌∙◌, rules, arith, chars, writing}
 use Rattle.patterns.proofs.Readings.{is_writing, first_of, shown, shown_empty, is_pattern}
 use Rattle.patterns.proofs.read_expression.Goals as goal
 

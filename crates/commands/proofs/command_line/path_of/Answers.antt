@@ -1,5 +1,4 @@
-use Rattle.std.proofs.Common.{◌∙◌, Some, ap}
-use Rattle.commands.proofs.Common.{found_of, first_value-rows}
+use Rattle.commands.proofs.Common.{◌∙◌, Some, ap, found_of, first_value-rows}
 use Rattle.commands.proofs.command_line.path_of.Goals as goal
 
 pub returns-in_ok-from_str-in-Some : goal.returns-in_ok-from_str-in-Some

@@ -1,5 +1,4 @@
-use Rattle.std.proofs.Common.{◌≡◌, ◌∙◌, [], ◌∷◌, ap, List, map, codes, string_bytes, String, arith}
-use Rattle.commands.proofs.Common.{All, IsUtf8, take_all, All-cons, All-nil, IfOk-weaker, IsUtf8-string_bytes, common_steps}
+use Rattle.commands.proofs.Common.{◌≡◌, ◌∙◌, [], ◌∷◌, ap, List, map, codes, string_bytes, String, All, IsUtf8, take_all, All-cons, All-nil, IfOk-weaker, IsUtf8-string_bytes}
 use Rattle.commands.proofs.command_line.words.Goals as goal
 
 texts : {Z : Type 0} (strings : List (String Z)) → All IsUtf8 (map string_bytes strings)
@@ -12,6 +11,3 @@ returns c =
     let line : map (λ s. s.now) c.deref.result.now ≡ codes "lrls" ∷ map string_bytes c.args.given.now =
     ap (map (λ s. s.now)) c.deref.ensures.value ∙ (c.loop-word.invariant ∙ ap (λ l. codes "lrls" ∷ map string_bytes l) all) in
     IfOk-weaker c.asked_by.result _ _ (λ task read. read (map string_bytes c.args.given.now) line (texts c.args.given.now)) c.asked_by.ensures
-
-pub loop-word-preserved : goal.loop-word-preserved
-loop-word-preserved c = grind (arith, common_steps)

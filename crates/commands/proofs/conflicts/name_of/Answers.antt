@@ -1,5 +1,4 @@
-use Rattle.std.proofs.Common.{sym, ap, ◌∙◌, encode_utf8_all}
-use Rattle.commands.proofs.Common.{encodes-chars, Symbol, name_bytes}
+use Rattle.commands.proofs.Common.{sym, ap, ◌∙◌, encode_utf8_all, encodes-chars, Symbol, name_bytes}
 use Rattle.commands.proofs.conflicts.name_of.Goals as goal
 
 pub returns-in-Rule : goal.returns-in-Rule

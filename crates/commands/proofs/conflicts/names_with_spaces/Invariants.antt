@@ -1,5 +1,4 @@
-use Rattle.std.proofs.Common.{◌≡◌, ◌++◌, drop, string_bytes}
-use Rattle.commands.specs.Conflicts.{names_with_spaces}
+use Rattle.commands.proofs.Common.{◌≡◌, ◌++◌, drop, string_bytes, names_with_spaces}
 use Rattle.commands.proofs.conflicts.names_with_spaces.Given as goal
 
 -- the names so far, and those of the symbols that are left

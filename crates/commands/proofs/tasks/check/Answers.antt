@@ -1,5 +1,4 @@
-use Rattle.std.proofs.Common.{◌≡◌, ◌++◌, ◌∷◌, [], List, ℕ, map, flat_map, string_bytes, sym, ap, subst, ◌∙◌, append_assoc, codes}
-use Rattle.commands.proofs.Common.{chars, FileGrammar, AreNotes, symbol_name, note_line, report}
+use Rattle.commands.proofs.Common.{◌≡◌, ◌++◌, ◌∷◌, [], List, ℕ, map, flat_map, string_bytes, sym, ap, subst, ◌∙◌, append_assoc, codes, chars, FileGrammar, AreNotes, symbol_name, note_line, report}
 use Rattle.commands.proofs.tasks.check.Goals as goal
 
 pub loop-name-init : goal.loop-name-init

@@ -1,5 +1,4 @@
-use Rattle.std.proofs.Common.{◌≡◌, ℕ, List, true, inr, subst, ap, ◌∙◌, rules}
-use Rattle.commands.proofs.Common.{chars, IfOk-weaker, Encoding, Utf16, Outcome, IsOutcome, OpenDocument, fits}
+use Rattle.commands.proofs.Common.{◌≡◌, ℕ, List, true, inr, subst, ap, ◌∙◌, rules, chars, IfOk-weaker, Encoding, Utf16, Outcome, IsOutcome, OpenDocument, fits}
 use Rattle.commands.proofs.tasks.parse.Goals as goal
 
 pub returns-in-Ok-open : goal.returns-in-Ok-open

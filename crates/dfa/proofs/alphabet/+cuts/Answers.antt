@@ -1,5 +1,4 @@
-use Rattle.std.proofs.Common.{◌≡◌, ◌+◌, ◌++◌, sym, ap, refl, inl, inr}
-use Rattle.dfa.proofs.Common.{IfOk-weaker, cuts, positions}
+use Rattle.dfa.proofs.Common.{◌≡◌, ◌+◌, ◌++◌, sym, ap, refl, inl, inr, IfOk-weaker, cuts, positions}
 use Rattle.dfa.proofs.Loops.{joined_at}
 use Rattle.dfa.proofs.alphabet.+cuts.Goals as goal
 

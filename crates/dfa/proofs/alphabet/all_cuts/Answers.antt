@@ -1,5 +1,4 @@
-use Rattle.std.proofs.Common.{◌+◌, drop, ap, arith}
-use Rattle.dfa.proofs.Common.{all_cuts, cuts, common_steps}
+use Rattle.dfa.proofs.Common.{◌+◌, drop, ap, all_cuts, cuts}
 use Rattle.dfa.proofs.JoinedLists.{one_more}
 use Rattle.dfa.proofs.Loops.{at_element}
 use Rattle.dfa.proofs.alphabet.all_cuts.Goals as goal
@@ -15,6 +14,3 @@ loop-pattern-preserved c =
           (all_cuts rules) c.in_ok-cuts.ensures.cuts (ap all_cuts here) c.loop-pattern.invariant.cuts;
       characters = c.in_ok-cuts.ensures.characters c.loop-pattern.invariant.characters;
     }
-
-pub returns-clause-cuts : goal.returns-clause-cuts
-returns-clause-cuts c = grind (arith, common_steps)

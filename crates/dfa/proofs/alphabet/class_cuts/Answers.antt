@@ -1,5 +1,4 @@
-use Rattle.std.proofs.Common.{rules, ◌≡◌, ◌+◌, ◌++◌, drop, slice_index_or, arith}
-use Rattle.dfa.proofs.Common.{at_drop_more, Interval, cut, class_cuts, common_steps}
+use Rattle.dfa.proofs.Common.{rules, ◌≡◌, ◌+◌, ◌++◌, drop, slice_index_or, at_drop_more, Interval, cut, class_cuts}
 use Rattle.dfa.proofs.JoinedLists.{one_more}
 use Rattle.dfa.proofs.alphabet.class_cuts.Goals as goal
 
@@ -14,6 +13,3 @@ loop-i-preserved c =
       cuts = one_more _ _ (cut x.first x.last) (class_cuts (drop i xs)) (class_cuts (drop (i + 1) xs)) _ e (at_drop_more class_cuts xs i d c.loop-i-test.true) c.loop-i.invariant.cuts;
       characters = λ h. c.in_ok-cut.ensures.characters (c.loop-i.invariant.characters h);
     }
-
-pub returns-clause-cuts : goal.returns-clause-cuts
-returns-clause-cuts c = grind (arith, common_steps)

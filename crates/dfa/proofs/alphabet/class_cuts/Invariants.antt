@@ -1,5 +1,4 @@
-use Rattle.std.proofs.Common.{◌≡◌, ◌++◌, drop, All}
-use Rattle.dfa.proofs.Common.{IsCharacter, class_cuts}
+use Rattle.dfa.proofs.Common.{◌≡◌, ◌++◌, drop, All, IsCharacter, class_cuts}
 use Rattle.dfa.proofs.alphabet.class_cuts.Given as goal
 
 abbrev pub invariant-loop-i : goal.invariant-loop-i

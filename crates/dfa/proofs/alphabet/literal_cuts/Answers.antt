@@ -1,5 +1,4 @@
-use Rattle.std.proofs.Common.{◌+◌, ◌∷◌, drop, ap, sym, ◌∙◌, arith}
-use Rattle.dfa.proofs.Common.{at_drop_more, cut, literal_cuts, common_steps}
+use Rattle.dfa.proofs.Common.{◌+◌, ◌∷◌, drop, ap, sym, ◌∙◌, at_drop_more, cut, literal_cuts}
 use Rattle.dfa.proofs.JoinedLists.{one_more}
 use Rattle.dfa.proofs.alphabet.literal_cuts.Goals as goal
 
@@ -13,6 +12,3 @@ loop-c-preserved c =
       cuts = one_more _ _ (cut x x) (literal_cuts (drop i xs)) (literal_cuts (drop (i + 1) xs)) _ c.in_ok-cut.ensures.cuts f c.loop-c.invariant.cuts;
       characters = λ h. c.in_ok-cut.ensures.characters (c.loop-c.invariant.characters h);
     }
-
-pub returns-clause-cuts : goal.returns-clause-cuts
-returns-clause-cuts c = grind (arith, common_steps)

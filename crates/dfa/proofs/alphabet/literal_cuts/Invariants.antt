@@ -1,5 +1,4 @@
-use Rattle.std.proofs.Common.{◌≡◌, ◌++◌, drop, All}
-use Rattle.dfa.proofs.Common.{IsCharacter, literal_cuts}
+use Rattle.dfa.proofs.Common.{◌≡◌, ◌++◌, drop, All, IsCharacter, literal_cuts}
 use Rattle.dfa.proofs.alphabet.literal_cuts.Given as goal
 
 abbrev pub invariant-loop-c : goal.invariant-loop-c

@@ -1,5 +1,4 @@
-use Rattle.std.proofs.Common.{◌≡◌, ℕ, ◌<◌, length, slice_index_or}
-use Rattle.dfa.proofs.Common.{part}
+use Rattle.dfa.proofs.Common.{◌≡◌, ℕ, ◌<◌, length, slice_index_or, part}
 use Rattle.dfa.proofs.build.ascii_parts.Given as goal
 
 abbrev pub invariant-loop-code : goal.invariant-loop-code

@@ -1,5 +1,4 @@
-use Rattle.std.proofs.Common.{◌+◌, ◌++◌, ◌∷◌, drop, sym, ap, ◌∙◌, subst, arith}
-use Rattle.dfa.proofs.Common.{at_drop_more, IsWellMade, all_positions, unmarked, positions, common_steps}
+use Rattle.dfa.proofs.Common.{◌+◌, ◌++◌, ◌∷◌, drop, sym, ap, ◌∙◌, subst, at_drop_more, IsWellMade, all_positions, unmarked, positions}
 use Rattle.dfa.proofs.JoinedLists.{one_more, unmarked-add, all_made}
 use Rattle.dfa.proofs.build.blank_marks.Goals as goal
 
@@ -17,9 +16,3 @@ loop-pattern-preserved c =
           (unmarked (all_positions xs)) new (ap unmarked at ∙ sym (unmarked-add (positions x) later)) c.loop-pattern.invariant.blank;
       made = λ h. c.loop-pattern.invariant.made (all_made xs i x c.loop-pattern-test.true (sym c.pattern-item.is) made h);
     }
-
-pub returns-clause-blank : goal.returns-clause-blank
-returns-clause-blank c = grind (arith, common_steps)
-
-pub returns-clause-made : goal.returns-clause-made
-returns-clause-made c = grind (arith, common_steps)

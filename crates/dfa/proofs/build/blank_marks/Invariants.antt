@@ -1,5 +1,4 @@
-use Rattle.std.proofs.Common.{◌≡◌, ◌++◌, drop}
-use Rattle.dfa.proofs.Common.{all_positions, unmarked, AllMade}
+use Rattle.dfa.proofs.Common.{◌≡◌, ◌++◌, drop, all_positions, unmarked, AllMade}
 use Rattle.dfa.proofs.build.blank_marks.Given as goal
 
 abbrev pub invariant-loop-pattern : goal.invariant-loop-pattern

@@ -1,5 +1,4 @@
-use Rattle.std.proofs.Common.{◌≡◌, ◌+◌, ◌++◌, sym, ap, ◌∙◌, refl, inl, inr}
-use Rattle.dfa.proofs.Common.{IfOk-weaker, positions, unmarked}
+use Rattle.dfa.proofs.Common.{◌≡◌, ◌+◌, ◌++◌, sym, ap, ◌∙◌, refl, inl, inr, IfOk-weaker, positions, unmarked}
 use Rattle.dfa.proofs.JoinedLists.{unmarked-add}
 use Rattle.dfa.proofs.Loops.{joined_at}
 use Rattle.dfa.proofs.positions.+blank.Goals as goal

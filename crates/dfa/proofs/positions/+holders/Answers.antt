@@ -1,5 +1,4 @@
-use Rattle.std.proofs.Common.{◌≡◌, ◌+◌, ◌++◌, sym, ap, inl, inr}
-use Rattle.dfa.proofs.Common.{IfOk-weaker, positions, holders}
+use Rattle.dfa.proofs.Common.{◌≡◌, ◌+◌, ◌++◌, sym, ap, inl, inr, IfOk-weaker, positions, holders}
 use Rattle.dfa.proofs.Loops.{joined_at, sum_at}
 use Rattle.dfa.proofs.positions.+holders.Goals as goal
 

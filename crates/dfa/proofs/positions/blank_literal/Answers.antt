@@ -1,5 +1,4 @@
-use Rattle.std.proofs.Common.{◌++◌, ◌∷◌, [], false, ap, ◌∙◌}
-use Rattle.dfa.proofs.Common.{append_assoc, unmarked}
+use Rattle.dfa.proofs.Common.{◌++◌, ◌∷◌, [], false, ap, ◌∙◌, append_assoc, unmarked}
 use Rattle.dfa.proofs.JoinedLists.{unmarked-more}
 use Rattle.dfa.proofs.positions.blank_literal.Goals as goal
 

@@ -1,5 +1,4 @@
-use Rattle.std.proofs.Common.{◌≡◌, ◌++◌}
-use Rattle.dfa.proofs.Common.{unmarked}
+use Rattle.dfa.proofs.Common.{◌≡◌, ◌++◌, unmarked}
 use Rattle.dfa.proofs.positions.blank_literal.Given as goal
 
 abbrev pub invariant-loop-c : goal.invariant-loop-c

@@ -1,5 +1,4 @@
-use Rattle.std.proofs.Common.{ℕ, ◌+◌, ◌++◌, drop, ap, ◌∙◌, arith, Vec, Global}
-use Rattle.dfa.proofs.Common.{literal_holders, common_steps}
+use Rattle.dfa.proofs.Common.{ℕ, ◌+◌, ◌++◌, drop, ap, ◌∙◌, arith, Vec, Global, literal_holders}
 use Rattle.dfa.proofs.Loops.{at_index, held_more, other_more}
 use Rattle.dfa.proofs.positions.literal_holders.Goals as goal
 use Rattle.dfa.proofs.positions.literal_holders.Goals.{then-d-c+in_ok-push, else-d-c}
@@ -22,6 +21,3 @@ loop-d-preserved c =
         | else-d-c w ↦ other_more held at d (drop i all) (drop (i + 1) all) out c.if-d-c.out.items whole here w.if-d-c.false (ap (λ (v : Vec ℕ Global). v.items) w.out-is) c.loop-d.invariant.holders
       ];
     }
-
-pub returns-clause-holders : goal.returns-clause-holders
-returns-clause-holders c = grind (arith, common_steps)

@@ -1,5 +1,4 @@
-use Rattle.std.proofs.Common.{◌≡◌, ◌+◌, ◌++◌, drop}
-use Rattle.dfa.proofs.Common.{literal_holders}
+use Rattle.dfa.proofs.Common.{◌≡◌, ◌+◌, ◌++◌, drop, literal_holders}
 use Rattle.dfa.proofs.positions.literal_holders.Given as goal
 
 abbrev pub invariant-loop-d : goal.invariant-loop-d

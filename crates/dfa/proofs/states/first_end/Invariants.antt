@@ -1,5 +1,4 @@
-use Rattle.std.proofs.Common.{◌≡◌, ◌+◌, drop}
-use Rattle.dfa.proofs.Common.{marks_of, all_counts, first_tree_end}
+use Rattle.dfa.proofs.Common.{◌≡◌, ◌+◌, drop, marks_of, all_counts, first_tree_end}
 use Rattle.dfa.proofs.states.first_end.Given as goal
 
 abbrev pub invariant-loop-k : goal.invariant-loop-k

@@ -1,5 +1,4 @@
-use Rattle.std.proofs.Common.{◌≡◌, ◌+◌, ◌++◌, drop}
-use Rattle.dfa.proofs.Common.{marks_of, all_counts, all_tree_next}
+use Rattle.dfa.proofs.Common.{◌≡◌, ◌+◌, ◌++◌, drop, marks_of, all_counts, all_tree_next}
 use Rattle.dfa.proofs.states.followers.Given as goal
 
 abbrev pub invariant-loop-tree : goal.invariant-loop-tree

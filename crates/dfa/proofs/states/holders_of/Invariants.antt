@@ -1,5 +1,4 @@
-use Rattle.std.proofs.Common.{◌≡◌, ◌+◌, ◌++◌, drop}
-use Rattle.dfa.proofs.Common.{all_holders, all_positions}
+use Rattle.dfa.proofs.Common.{◌≡◌, ◌+◌, ◌++◌, drop, all_holders, all_positions}
 use Rattle.dfa.proofs.states.holders_of.Given as goal
 
 abbrev pub invariant-loop-pattern : goal.invariant-loop-pattern

@@ -1,5 +1,4 @@
-use Rattle.std.proofs.Common.{◌≡◌, ◌++◌, drop}
-use Rattle.dfa.proofs.Common.{kept}
+use Rattle.dfa.proofs.Common.{◌≡◌, ◌++◌, drop, kept}
 use Rattle.dfa.proofs.states.marked.Given as goal
 
 abbrev pub invariant-loop-p : goal.invariant-loop-p

@@ -1,5 +1,4 @@
-use Rattle.std.proofs.Common.{arith}
-use Rattle.dfa.proofs.Common.{members, common_steps}
+use Rattle.dfa.proofs.Common.{arith, members}
 use Rattle.dfa.proofs.Numbered.{placed, numbered_key, placed_bound}
 use Rattle.dfa.proofs.states.number.Goals as goal
 
@@ -17,6 +16,3 @@ returns-then-number-lt-MOST_STATES-clause-bound c = λ le.
 
 pub returns-else-number-lt-MOST_STATES-clause-placed : goal.returns-else-number-lt-MOST_STATES-clause-placed
 returns-else-number-lt-MOST_STATES-clause-placed c = placed c.args.sets.now.keys c.insert_full.new.self.keys c.args.set c.in-Ok.ensures.keys
-
-pub returns-else-number-lt-MOST_STATES-clause-many : goal.returns-else-number-lt-MOST_STATES-clause-many
-returns-else-number-lt-MOST_STATES-clause-many c = grind (arith, common_steps)

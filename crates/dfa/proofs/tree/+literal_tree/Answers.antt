@@ -1,5 +1,4 @@
-use Rattle.std.proofs.Common.{◌≡◌, ◌+◌, ◌++◌, length, false, sym, ap, ◌∙◌, subst}
-use Rattle.dfa.proofs.Common.{take-append-drop, length-append, IsLiteralTree, count}
+use Rattle.dfa.proofs.Common.{◌≡◌, ◌+◌, ◌++◌, length, false, sym, ap, ◌∙◌, subst, take-append-drop, length-append, IsLiteralTree, count}
 use Rattle.dfa.proofs.Trees.{literal_one_of, literal_parts, node}
 use Rattle.dfa.proofs.tree.+literal_tree.Goals as goal
 

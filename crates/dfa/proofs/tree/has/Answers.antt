@@ -1,5 +1,4 @@
-use Rattle.std.proofs.Common.{◌∙◌}
-use Rattle.dfa.proofs.Common.{searched}
+use Rattle.dfa.proofs.Common.{◌∙◌, searched}
 use Rattle.dfa.proofs.MarkedSets.{found_marked}
 use Rattle.dfa.proofs.Sets.{rises_ascending}
 use Rattle.dfa.proofs.tree.has.Goals as goal

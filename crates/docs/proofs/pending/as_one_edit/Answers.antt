@@ -1,5 +1,4 @@
-use Rattle.std.proofs.Common.{◌+◌, ◌-◌, arith, refl, ap}
-use Rattle.docs.proofs.Common.{min-le_left, min-le_right, le-max_left, le-max_right, max-le, Edit}
+use Rattle.docs.proofs.Common.{◌+◌, ◌-◌, arith, refl, ap, min-le_left, min-le_right, le-max_left, le-max_right, max-le, Edit}
 use Rattle.docs.proofs.JoinedEdits.{inserted_within, leads_by_both}
 use Rattle.docs.proofs.pending.as_one_edit.Goals as goal
 

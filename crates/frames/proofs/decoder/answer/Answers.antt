@@ -1,5 +1,4 @@
-use Rattle.std.proofs.Common.{arith, rules}
-use Rattle.frames.proofs.Common.{common_steps}
+use Rattle.frames.proofs.Common.{arith, rules, common_steps}
 use Rattle.frames.proofs.decoder.answer.Goals as goal
 
 pub returns-in-Some-clause-fault : goal.returns-in-Some-clause-fault

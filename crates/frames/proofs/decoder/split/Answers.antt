@@ -1,5 +1,4 @@
-use Rattle.std.proofs.Common.{◌≡◌, ◌+◌, ◌-◌, ◌<◌, ◌≤◌, ℕ, List, [], ◌∷◌, ◌++◌, length, drop, sym, subst, ap, ◌∙◌, arith, length-drop, Some, None}
-use Rattle.frames.proofs.Common.{map-append, Frame, NeedsMore, Announces, contents, Awaits}
+use Rattle.frames.proofs.Common.{◌≡◌, ◌+◌, ◌-◌, ◌<◌, ◌≤◌, ℕ, List, [], ◌∷◌, ◌++◌, length, drop, sym, subst, ap, ◌∙◌, arith, length-drop, Some, None, map-append, Frame, NeedsMore, Announces, contents, Awaits}
 use Rattle.frames.proofs.Splits.{one_more, IsSplitTo, ends, begun, faulty, begins}
 use Rattle.frames.proofs.KeptBytes.{kept_anew, awaits_none}
 use Rattle.frames.proofs.PrefixDecides.{awaits_frame}

@@ -1,5 +1,4 @@
-use Rattle.std.proofs.Common.{◌≡◌, ℕ, List, ◌++◌, length, take, drop, sym, subst, ap, ◌∙◌, arith}
-use Rattle.frames.proofs.Common.{take-append-le, take_all, contents, Splits, tail_of, Awaits, HoldsNone, IsDecoder}
+use Rattle.frames.proofs.Common.{◌≡◌, ℕ, List, ◌++◌, length, take, drop, sym, subst, ap, ◌∙◌, arith, take-append-le, take_all, contents, Splits, tail_of, Awaits, HoldsNone, IsDecoder}
 use Rattle.frames.proofs.KeptBytes.{awaits_more, holds_more}
 use Rattle.frames.proofs.decoder.take_frames.Goals as goal
 

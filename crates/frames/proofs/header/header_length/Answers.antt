@@ -1,5 +1,4 @@
-use Rattle.std.proofs.Common.{◌≡◌, ◌<◌, ◌∙◌, length, sym, ap, arith, length-drop, Err}
-use Rattle.frames.proofs.Common.{err_from_is_err_and, FrameFault, header_length}
+use Rattle.frames.proofs.Common.{◌≡◌, ◌<◌, ◌∙◌, length, sym, ap, arith, length-drop, Err, err_from_is_err_and, FrameFault, header_length}
 use Rattle.frames.proofs.Faults.{header_small, header_fails}
 use Rattle.frames.proofs.Lines.{line_passed, line_failed, lines_passed}
 use Rattle.frames.proofs.header.header_length.Goals as goal

@@ -1,5 +1,4 @@
-use Rattle.std.proofs.Common.{◌≡◌, length}
-use Rattle.frames.proofs.Common.{header_length, lines_length, lines_of}
+use Rattle.frames.proofs.Common.{◌≡◌, length, header_length, lines_length, lines_of}
 use Rattle.frames.proofs.header.header_length.Given as goal
 
 -- the lines ahead decide what the header part gives

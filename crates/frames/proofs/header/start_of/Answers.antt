@@ -1,5 +1,4 @@
-use Rattle.std.proofs.Common.{◌≡◌, length, arith, ap, ◌∙◌, min}
-use Rattle.frames.proofs.Common.{length-take, common_steps}
+use Rattle.frames.proofs.Common.{◌≡◌, length, arith, ap, ◌∙◌, min, length-take}
 use Rattle.frames.proofs.header.start_of.Goals as goal
 
 pub returns-in-Ok-clause-within : goal.returns-in-Ok-clause-within
@@ -7,6 +6,3 @@ returns-in-Ok-clause-within c =
     let bytes = c.args.bytes.now in
     let len : length c.longest_header_of-prefix.result.now ≡ min 4096 (length bytes) = ap length c.longest_header_of-prefix.ensures ∙ length-take 4096 bytes in
     (c.in-Some.ensures.low, omega (arith, len, c.in-Some.ensures.high), omega (arith, len, c.in-Some.ensures.high), c.in-Ok.ensures.bound)
-
-pub returns-else-bytes-lt-LONGEST_HEADER-clause-value : goal.returns-else-bytes-lt-LONGEST_HEADER-clause-value
-returns-else-bytes-lt-LONGEST_HEADER-clause-value c = grind (arith, common_steps)

@@ -1,5 +1,4 @@
-use Rattle.std.proofs.Common.{refl, ◌∙◌}
-use Rattle.frames.proofs.Common.{trim_ascii_is}
+use Rattle.frames.proofs.Common.{refl, ◌∙◌, trim_ascii_is}
 use Rattle.frames.proofs.Trimmed.{trimmed_is}
 use Rattle.frames.proofs.header.trim.Goals as goal
 

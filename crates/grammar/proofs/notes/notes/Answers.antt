@@ -1,5 +1,4 @@
-use Rattle.std.proofs.Common.{sym, subst, refl, take, [], arith}
-use Rattle.grammar.proofs.Common.{take_all, AreNotes, none}
+use Rattle.grammar.proofs.Common.{sym, subst, refl, take, [], arith, take_all, AreNotes, none}
 use Rattle.grammar.proofs.NotesOfUses.{one_more}
 use Rattle.grammar.proofs.notes.notes.Goals as goal
 

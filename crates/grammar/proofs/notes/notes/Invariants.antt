@@ -1,5 +1,4 @@
-use Rattle.std.proofs.Common.{◌≡◌, take}
-use Rattle.grammar.proofs.Common.{FileGrammar, AreNotes, AreUsed}
+use Rattle.grammar.proofs.Common.{◌≡◌, take, FileGrammar, AreNotes, AreUsed}
 use Rattle.grammar.proofs.notes.notes.Given as goal
 
 abbrev pub invariant-loop-symbol : goal.invariant-loop-symbol

@@ -1,5 +1,5 @@
-use Rattle.std.proofs.Common.{◌∙◌, ap, arith, take_all, map}
-use Rattle.grammar.proofs.Common.{is_fold, texts, lines_view, common_steps}
+use Rattle.grammar.proofs.Common.{◌∙◌, ap, arith, map, is_fold, texts, lines_view, common_steps}
+use Rattle.std.proofs.Common.{take_all}
 use Rattle.grammar.proofs.numbers.folds.Goals as goal
 
 pub returns : goal.returns

@@ -1,5 +1,4 @@
-use Rattle.std.proofs.Common.{◌∙◌, ◌++◌, [], ap, sym, take, map, arith}
-use Rattle.grammar.proofs.Common.{cons_option, productions, production_of, lines_view, productions_more, common_steps}
+use Rattle.grammar.proofs.Common.{◌∙◌, ◌++◌, [], ap, sym, take, map, arith, cons_option, productions, production_of, lines_view, productions_more, common_steps}
 use Rattle.grammar.proofs.numbers.productions.Goals as goal
 
 pub loop-statement-preserved : goal.loop-statement-preserved

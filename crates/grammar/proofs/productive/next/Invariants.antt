@@ -1,5 +1,4 @@
-use Rattle.std.proofs.Common.{take}
-use Rattle.grammar.proofs.Common.{IsClosed}
+use Rattle.grammar.proofs.Common.{take, IsClosed}
 use Rattle.grammar.proofs.productive.next.Given as goal
 
 abbrev pub invariant-loop-production : goal.invariant-loop-production

@@ -1,5 +1,4 @@
-use Rattle.std.proofs.Common.{◌<◌, ◌∙◌, Bool, true, List, length, subst, arith}
-use Rattle.grammar.proofs.Common.{length-set, IsClosed, IsNext, common_steps}
+use Rattle.grammar.proofs.Common.{◌<◌, ◌∙◌, Bool, true, List, length, subst, arith, length-set, IsClosed, IsNext, common_steps}
 use Rattle.grammar.proofs.NonterminalMarks.{complete, sound_more, next_within}
 use Rattle.grammar.proofs.productive.productive.Goals as goal
 

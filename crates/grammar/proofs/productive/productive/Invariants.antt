@@ -1,5 +1,4 @@
-use Rattle.std.proofs.Common.{◌≡◌, length}
-use Rattle.grammar.proofs.Common.{AreSound}
+use Rattle.grammar.proofs.Common.{◌≡◌, length, AreSound}
 use Rattle.grammar.proofs.NonterminalMarks.{unmarked}
 use Rattle.grammar.proofs.productive.productive.Given as goal
 

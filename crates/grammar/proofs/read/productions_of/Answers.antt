@@ -1,5 +1,4 @@
-use Rattle.grammar.proofs.Common.{IfSome_then, IsUnproductive, Reports, err_from_is_err_and, lines_view}
-use Rattle.std.proofs.Common.{◌∙◌}
+use Rattle.grammar.proofs.Common.{IfSome_then, IsUnproductive, Reports, err_from_is_err_and, lines_view, ◌∙◌}
 use Rattle.grammar.proofs.FaultlessFile.{productions_are, below, productive, unproductive_is}
 use Rattle.grammar.proofs.read.productions_of.Goals as goal
 

@@ -1,5 +1,4 @@
-use Rattle.std.proofs.Common.{arith}
-use Rattle.std.proofs.lemmas.Grind.{common_steps}
+use Rattle.grammar.proofs.Common.{arith, common_steps}
 use Rattle.grammar.proofs.read.skips.Goals as goal
 
 pub returns : goal.returns

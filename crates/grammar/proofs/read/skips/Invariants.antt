@@ -1,5 +1,4 @@
-use Rattle.std.proofs.Common.{◌≡◌, take, map}
-use Rattle.grammar.proofs.Common.{rule_line}
+use Rattle.grammar.proofs.Common.{◌≡◌, take, map, rule_line}
 use Rattle.grammar.proofs.read.skips.Given as goal
 
 abbrev pub invariant-loop-rule : goal.invariant-loop-rule

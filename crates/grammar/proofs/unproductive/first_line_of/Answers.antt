@@ -1,5 +1,4 @@
-use Rattle.std.proofs.Common.{refl, sym, take, drop, ◌+◌, arith}
-use Rattle.grammar.proofs.Common.{lines_view, statement_of, said_split, common_steps}
+use Rattle.grammar.proofs.Common.{refl, sym, take, drop, ◌+◌, lines_view, statement_of, said_split, arith, common_steps}
 use Rattle.grammar.proofs.unproductive.first_line_of.Goals as goal
 
 pub returns-then-is_production_of : goal.returns-then-is_production_of

@@ -1,5 +1,4 @@
-use Rattle.std.proofs.Common.{◌≡◌, false, take}
-use Rattle.grammar.proofs.Common.{list_any, is_production_of, lines_view}
+use Rattle.grammar.proofs.Common.{◌≡◌, false, take, list_any, is_production_of, lines_view}
 use Rattle.grammar.proofs.unproductive.first_line_of.Given as goal
 
 abbrev pub invariant-loop-statement : goal.invariant-loop-statement

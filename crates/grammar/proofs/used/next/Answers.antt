@@ -1,5 +1,4 @@
-use Rattle.std.proofs.Common.{refl}
-use Rattle.grammar.proofs.Common.{slice_get_read}
+use Rattle.grammar.proofs.Common.{refl, slice_get_read}
 use Rattle.grammar.proofs.UsedMarks.{spread_more}
 use Rattle.grammar.proofs.used.next.Goals as goal
 

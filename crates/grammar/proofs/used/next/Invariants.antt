@@ -1,5 +1,4 @@
-use Rattle.std.proofs.Common.{take}
-use Rattle.grammar.proofs.Common.{IsSpread}
+use Rattle.grammar.proofs.Common.{take, IsSpread}
 use Rattle.grammar.proofs.used.next.Given as goal
 
 abbrev pub invariant-loop-production : goal.invariant-loop-production

@@ -1,5 +1,4 @@
-use Rattle.grammar_file.proofs.Common.{err_from_is_err_and, lines_view}
-use Rattle.std.proofs.Common.{◌∙◌, ap}
+use Rattle.grammar_file.proofs.Common.{err_from_is_err_and, lines_view, ◌∙◌, ap}
 use Rattle.grammar_file.proofs.Files.{reference_fault}
 use Rattle.grammar_file.proofs.file.fill.Goals as goal
 

@@ -1,5 +1,4 @@
-use Rattle.std.proofs.Common.{◌≡◌, take}
-use Rattle.grammar_file.proofs.Common.{with_marked, texts}
+use Rattle.grammar_file.proofs.Common.{◌≡◌, take, with_marked, texts}
 use Rattle.grammar_file.proofs.names.add_marked.Given as goal
 
 abbrev pub invariant-loop-word : goal.invariant-loop-word

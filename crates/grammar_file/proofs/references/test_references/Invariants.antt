@@ -1,5 +1,4 @@
-use Rattle.std.proofs.Common.{take}
-use Rattle.grammar_file.proofs.Common.{HaveReferents, lines_view}
+use Rattle.grammar_file.proofs.Common.{take, HaveReferents, lines_view}
 use Rattle.grammar_file.proofs.references.test_references.Given as goal
 
 abbrev pub invariant-loop-statement : goal.invariant-loop-statement

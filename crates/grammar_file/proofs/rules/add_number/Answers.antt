@@ -1,5 +1,4 @@
-use Rattle.std.proofs.Common.{◌∙◌, ◌++◌, ◌∷◌, [], sym, subst}
-use Rattle.grammar_file.proofs.Common.{bytes_eq, insert_entry-new, AreNumbers}
+use Rattle.grammar_file.proofs.Common.{◌∙◌, ◌++◌, ◌∷◌, [], sym, subst, bytes_eq, insert_entry-new, AreNumbers}
 use Rattle.grammar_file.proofs.NameLookUps.{numbers-new, numbers-again, none_from}
 use Rattle.grammar_file.proofs.rules.add_number.Goals as goal
 

@@ -1,5 +1,4 @@
-use Rattle.std.proofs.Common.{◌≡◌, drop, map}
-use Rattle.grammar_file.proofs.Common.{plain, reserved, texts}
+use Rattle.grammar_file.proofs.Common.{◌≡◌, drop, map, plain, reserved, texts}
 use Rattle.grammar_file.proofs.statements.test_words.Given as goal
 
 abbrev pub invariant-loop-word : goal.invariant-loop-word

@@ -1,5 +1,4 @@
-use Rattle.std.proofs.Common.{sym, subst}
-use Rattle.grammar_file.proofs.Common.{on_ok_weaker, Production, texts, lines_view, AreNames}
+use Rattle.grammar_file.proofs.Common.{sym, subst, on_ok_weaker, Production, texts, lines_view, AreNames}
 use Rattle.grammar_file.proofs.Lines.{names-step}
 use Rattle.grammar_file.proofs.written_out.add_production.Goals as goal
 

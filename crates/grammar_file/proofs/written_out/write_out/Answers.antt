@@ -1,5 +1,4 @@
-use Rattle.std.proofs.Common.{◌≡◌, ◌++◌, ◌∙◌, ap, arith, rules, take_all}
-use Rattle.grammar_file.proofs.Common.{flat_map, added, marked, texts, lines_view, common_steps}
+use Rattle.grammar_file.proofs.Common.{◌≡◌, ◌++◌, ◌∙◌, ap, arith, rules, take_all, flat_map, added, marked, texts, lines_view, common_steps}
 use Rattle.grammar_file.proofs.WritingOut.{added_more}
 use Rattle.grammar_file.proofs.written_out.write_out.Goals as goal
 

@@ -1,8 +1,4 @@
-use Rattle.std.proofs.Common.{rules, tests, ◌∙◌, sym}
-use Rattle.std.proofs.lemmas.Iterator.{YieldsList-from_slice}
-use Rattle.std.proofs.lemmas.Iterator.Search.{all_from_yields_List}
-use Rattle.std.proofs.lemmas.List.Folds.{list_all-map}
-use Rattle.grammar_line.specs.Statements.{is_right_word}
+use Rattle.grammar_line.proofs.Common.{rules, tests, ◌∙◌, sym, YieldsList-from_slice, all_from_yields_List, list_all-map, is_right_word}
 use Rattle.grammar_line.proofs.line.are_right_words.Goals as goal
 
 pub returns : goal.returns

@@ -1,6 +1,4 @@
-use Rattle.std.proofs.Common.{◌≡◌, ◌++◌, take, filter}
-use Rattle.grammar_line.specs.Words.{is_filled}
-use Rattle.grammar_line.specs.Kept.{texts}
+use Rattle.grammar_line.proofs.Common.{◌≡◌, ◌++◌, take, filter, is_filled, texts}
 use Rattle.grammar_line.proofs.words.add_words.Given as goal
 
 abbrev pub invariant-loop-word : goal.invariant-loop-word

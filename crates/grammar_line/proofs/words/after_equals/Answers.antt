@@ -1,7 +1,4 @@
-use Rattle.std.proofs.Common.{◌≡◌, ◌==◌, ◌∙◌, ap, arith}
-use Rattle.std.proofs.lemmas.Grind.{common_steps}
-use Rattle.std.specs.List.{after_first}
-use Rattle.grammar_line.specs.Words.{trim_start, trim_end}
+use Rattle.grammar_line.proofs.Common.{◌≡◌, ◌==◌, ◌∙◌, ap, arith, common_steps, after_first, trim_start, trim_end}
 use Rattle.grammar_line.proofs.Blanks.{starts_trimmed, ends_trimmed}
 use Rattle.grammar_line.proofs.words.after_equals.Goals as goal
 use Rattle.grammar_line.proofs.words.after_equals.Goals.{in-Some, in-None}

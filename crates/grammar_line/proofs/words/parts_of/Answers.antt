@@ -1,5 +1,4 @@
-use Rattle.std.proofs.lemmas.Iterator.Consumers.{map_from_collect}
-use Rattle.std.proofs.lemmas.Iterator.Splits.{YieldsList-from_str_split}
+use Rattle.grammar_line.proofs.Common.{map_from_collect, YieldsList-from_str_split}
 use Rattle.grammar_line.proofs.words.parts_of.Goals as goal
 
 pub returns : goal.returns

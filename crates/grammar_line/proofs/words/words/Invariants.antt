@@ -1,7 +1,4 @@
-use Rattle.std.proofs.Common.{◌≡◌, take, filter, ◌==◌}
-use Rattle.std.specs.List.{flat_map, slice_split}
-use Rattle.grammar_line.specs.Words.{is_filled}
-use Rattle.grammar_line.specs.Kept.{texts}
+use Rattle.grammar_line.proofs.Common.{◌≡◌, take, filter, ◌==◌, flat_map, slice_split, is_filled, texts}
 use Rattle.grammar_line.proofs.words.words.Given as goal
 
 abbrev pub invariant-loop-part : goal.invariant-loop-part

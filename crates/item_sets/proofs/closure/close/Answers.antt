@@ -1,5 +1,4 @@
-use Rattle.std.proofs.Common.{length, slice_index_or, subst, ◌∙◌}
-use Rattle.item_sets.proofs.Common.{Contains-get_or, IfOk-weaker, IsSetOf, AreCalledFor, HaveBeginnings}
+use Rattle.item_sets.proofs.Common.{length, slice_index_or, subst, ◌∙◌, Contains-get_or, IfOk-weaker, IsSetOf, AreCalledFor, HaveBeginnings}
 use Rattle.item_sets.proofs.InRange.{has_all, only_in, in_known}
 use Rattle.item_sets.proofs.Valid.{set_of}
 use Rattle.item_sets.proofs.closure.close.Goals as goal

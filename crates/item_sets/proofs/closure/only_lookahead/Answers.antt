@@ -1,5 +1,4 @@
-use Rattle.std.proofs.Common.{◌<◌, length, arith, sym, ◌∙◌}
-use Rattle.item_sets.proofs.Common.{eqb-true, eqb-false, Rule, follows_nothing, follows_first}
+use Rattle.item_sets.proofs.Common.{◌<◌, length, arith, sym, ◌∙◌, eqb-true, eqb-false, Rule, follows_nothing, follows_first}
 use Rattle.item_sets.proofs.closure.only_lookahead.Goals as goal
 
 pub returns-then-is_empty : goal.returns-then-is_empty

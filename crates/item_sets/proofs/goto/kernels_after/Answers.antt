@@ -1,5 +1,4 @@
-use Rattle.std.proofs.Common.{rules, ◌≡◌, ◌<◌, ◌∷◌, ◌++◌, [], Some, None, length, slice_index_or, slice_set, length-set, ap, sym, subst, ◌∙◌, arith, IfSome}
-use Rattle.item_sets.proofs.Common.{get_or_default, first, Item, IsKnown, after_dot, step, ShiftsUpTo, number, symbol_of}
+use Rattle.item_sets.proofs.Common.{rules, ◌≡◌, ◌<◌, ◌∷◌, ◌++◌, [], Some, None, length, slice_index_or, slice_set, length-set, ap, sym, subst, ◌∙◌, arith, IfSome, get_or_default, first, Item, IsKnown, after_dot, step, ShiftsUpTo, number, symbol_of}
 use Rattle.item_sets.proofs.KernelsAfter.{kernels_more, kernels_same, shifts_none, kernel_after}
 use Rattle.item_sets.proofs.goto.kernels_after.Goals as goal
 use Rattle.item_sets.proofs.goto.kernels_after.Goals.{in-Some+in_ok-add, in_default}
@@ -43,10 +42,7 @@ loop-item-preserved c =
             count = length-set old n (slice_index_or old n [] ++ step item ∷ []) ∙ count;
             each = kernels_more g items at zero below old i.each c.requires.rising s known stands within;
           })
-      | in_default w ↦ rw w.kernels-is (record {
-        count = i.count;
-        each = kernels_same g items at zero below old i.each (λ s e. w.in_default.not-Some s (c.next.ensures.next ∙ e));
-      })
+      | in_default w ↦ rw w.kernels-is (record { count = i.count; each = kernels_same g items at zero below old i.each (λ s e. w.in_default.not-Some s (c.next.ensures.next ∙ e)) })
     ]
 
 pub returns-clause-each : goal.returns-clause-each

@@ -1,5 +1,4 @@
-use Rattle.std.proofs.Common.{◌≡◌, ◌+◌, ◌<◌, ℕ, [], length, slice_index_or}
-use Rattle.item_sets.proofs.Common.{ShiftsUpTo, symbol_of}
+use Rattle.item_sets.proofs.Common.{◌≡◌, ◌+◌, ◌<◌, ℕ, [], length, slice_index_or, ShiftsUpTo, symbol_of}
 use Rattle.item_sets.proofs.goto.kernels_after.Given as goal
 
 abbrev pub invariant-loop-item : goal.invariant-loop-item

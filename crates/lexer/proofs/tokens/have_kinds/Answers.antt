@@ -1,14 +1,10 @@
-use Rattle.std.proofs.Common.{arith, sym, ap, ◌≡◌, ◌∙◌, ◌-◌, ◌+◌, take, length, length-drop}
-use Rattle.lexer.proofs.Common.{same_kinds, significant_kinds}
+use Rattle.lexer.proofs.Common.{arith, sym, ap, ◌≡◌, ◌∙◌, ◌-◌, ◌+◌, take, length, length-drop, same_kinds, significant_kinds}
 use Rattle.lexer.proofs.Walks.{tail_of_drop, take_one_more}
 use Rattle.lexer.proofs.SignificantKinds.{none_left}
 use Rattle.lexer.proofs.tokens.have_kinds.Goals as goal
 
 pub loop-init : goal.loop-init
-loop-init c = record {
-  ahead = c.iter_from-ahead.ensures;
-  left = ap (λ ts. same_kinds (significant_kinds (take (c.args.to - c.args.from) ts)) c.args.kinds.now) c.iter_from-ahead.ensures;
-}
+loop-init c = record { ahead = c.iter_from-ahead.ensures; left = ap (λ ts. same_kinds (significant_kinds (take (c.args.to - c.args.from) ts)) c.args.kinds.now) c.iter_from-ahead.ensures }
 
 pub unreachable-requires : goal.unreachable-requires
 unreachable-requires c =

@@ -1,5 +1,4 @@
-use Rattle.std.proofs.Common.{arith, sym, subst, ◌≡◌, ◌+◌, ◌-◌}
-use Rattle.lexer.proofs.Common.{IsPassed, horizon}
+use Rattle.lexer.proofs.Common.{arith, sym, subst, ◌≡◌, ◌+◌, ◌-◌, IsPassed, horizon}
 use Rattle.lexer.proofs.Boundaries.{not_after, rejoined_is}
 use Rattle.lexer.proofs.tokens.rejoin_place.Goals as goal
 

@@ -1,5 +1,4 @@
-use Rattle.std.proofs.Common.{arith, refl, ap, subst, ◌≡◌, ◌∙◌, ◌+◌, length, take, false, true}
-use Rattle.lexer.proofs.Common.{IsWithinReach, is_rejoined, characters, plain_all, prefix_end, horizon, common_steps}
+use Rattle.lexer.proofs.Common.{arith, refl, ap, subst, ◌≡◌, ◌∙◌, ◌+◌, length, take, false, true, IsWithinReach, is_rejoined, characters, plain_all, prefix_end, horizon}
 use Rattle.lexer.proofs.Scans.{made_none, made_more, characters-more, lead_one}
 use Rattle.lexer.proofs.Remakes.{removed_fits, prefix_inside, prefix_passed, end_rejoins, end_moved, needed, earlier_one}
 use Rattle.lexer.proofs.Walks.{passed_later}
@@ -70,6 +69,3 @@ returns g c =
       within = omega (arith, end);
       moved = rw end (end_moved c.args.scan.now c.args.edit xs u c.requires.edited ∙ ap (λ n. n + c.args.edit.removed) all);
     }
-
-pub rejoin_place-requires-clause-inserted : goal.rejoin_place-requires-clause-inserted
-rejoin_place-requires-clause-inserted g c = grind (arith, common_steps)

@@ -1,5 +1,4 @@
-use Rattle.lexer.proofs.Common.{Leads, is_rejoined, characters, plain_all, prefix_end, AreMade, IsPassed, horizon}
-use Rattle.std.proofs.Common.{ℕ, ◌≡◌, ◌≤◌, ◌<◌, ◌+◌, ◌-◌, length, drop, take, false}
+use Rattle.lexer.proofs.Common.{Leads, is_rejoined, characters, plain_all, prefix_end, AreMade, IsPassed, horizon, ℕ, ◌≡◌, ◌≤◌, ◌<◌, ◌+◌, ◌-◌, length, drop, take, false}
 use Rattle.lexer.proofs.tokens.remake.Given as goal
 
 abbrev pub invariant-loop-at : goal.invariant-loop-at

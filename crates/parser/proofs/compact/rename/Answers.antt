@@ -1,5 +1,4 @@
-use Rattle.std.proofs.Common.{arith}
-use Rattle.std.proofs.lemmas.Grind.{common_steps}
+use Rattle.parser.proofs.Common.{arith, common_steps}
 use Rattle.parser.proofs.compact.rename.Goals as goal
 
 pub loop-child-preserved : goal.loop-child-preserved

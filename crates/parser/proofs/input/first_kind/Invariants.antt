@@ -1,5 +1,4 @@
-use Rattle.std.proofs.Common.{◌≡◌, List, ◌++◌, length}
-use Rattle.parser.proofs.Common.{Kind, all_kinds, AreBelow, plain_of}
+use Rattle.parser.proofs.Common.{◌≡◌, List, ◌++◌, length, Kind, all_kinds, AreBelow, plain_of}
 use Rattle.parser.proofs.input.first_kind.Given as goal
 
 abbrev pub invariant-edge : goal.invariant-edge

@@ -1,5 +1,4 @@
-use Rattle.std.proofs.Common.{ℕ, length}
-use Rattle.parser.proofs.Common.{AreBelow, all_trees, plain_of, ComeFrom, AreOlder}
+use Rattle.parser.proofs.Common.{ℕ, length, AreBelow, all_trees, plain_of, ComeFrom, AreOlder}
 use Rattle.parser.proofs.LeftEdge.{weight}
 use Rattle.parser.proofs.older.are_older.Given as goal
 

@@ -1,5 +1,4 @@
-use Rattle.std.proofs.Common.{refl}
-use Rattle.parser.proofs.Common.{below-at}
+use Rattle.parser.proofs.Common.{refl, below-at}
 use Rattle.parser.proofs.parse.branches_of.Goals as goal
 
 pub size_of-requires : goal.size_of-requires

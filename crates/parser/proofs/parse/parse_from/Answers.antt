@@ -1,5 +1,4 @@
-use Rattle.std.proofs.Common.{sym, subst, ap, arith, ◌∙◌, [], ◌∷◌, length}
-use Rattle.parser.proofs.Common.{input_of, all_trees, all_branches, plain_of, IsStop, verdict_of, CameFrom, SoFar, common_steps}
+use Rattle.parser.proofs.Common.{sym, subst, ap, arith, ◌∙◌, [], ◌∷◌, length, input_of, all_trees, all_branches, plain_of, IsStop, verdict_of, CameFrom, SoFar, common_steps}
 use Rattle.parser.proofs.WhereBranchesComeFrom.{came_begins}
 use Rattle.parser.proofs.Running.{begun}
 use Rattle.parser.proofs.parse.parse_from.Goals as goal

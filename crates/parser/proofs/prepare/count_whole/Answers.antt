@@ -1,5 +1,4 @@
-use Rattle.std.proofs.Common.{◌≡◌, ◌+◌, ◌<◌, ℕ, List, length, take, get_or, refl, sym, ap, ◌∙◌, subst, arith}
-use Rattle.parser.proofs.Common.{take_more, place_of, Rule, Child, Token, Cell, below-at, kinds_in, plain_of}
+use Rattle.parser.proofs.Common.{◌≡◌, ◌+◌, ◌<◌, ℕ, List, length, take, get_or, refl, sym, ap, ◌∙◌, subst, arith, take_more, place_of, Rule, Child, Token, Cell, below-at, kinds_in, plain_of}
 use Rattle.parser.proofs.Cuts.{counted, counted_in, place_push}
 use Rattle.parser.proofs.prepare.count_whole.Goals as goal
 
@@ -20,7 +19,4 @@ loop-child-preserved c =
     let count : c.tokens_of-count.result ≡ kinds_in cells child = c.tokens_of-count.ensures ∙ counted (kinds_in cells child)
     (omega (arith, c.requires.countable, counted_in cells all c.loop-child.child-index (Token (Rule 0)) c.loop-child-test.true)) in
     let more = one_more cells all c.loop-child.whole c.loop-child.child-index (Token (Rule 0)) c.loop-child.invariant.whole c.loop-child-test.true in
-    record {
-      whole = omega (arith, c.loop-child.invariant.whole);
-      left = omega (arith, more, count, c.loop-child.invariant.left, c.if-count-left.false);
-    }
+    record { whole = omega (arith, c.loop-child.invariant.whole); left = omega (arith, more, count, c.loop-child.invariant.left, c.if-count-left.false) }

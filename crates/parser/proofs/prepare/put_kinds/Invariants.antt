@@ -1,5 +1,4 @@
-use Rattle.std.proofs.Common.{◌≡◌, ◌++◌, ◌-◌, length, drop, map}
-use Rattle.parser.proofs.Common.{Token}
+use Rattle.parser.proofs.Common.{◌≡◌, ◌++◌, ◌-◌, length, drop, map, Token}
 use Rattle.parser.proofs.prepare.put_kinds.Given as goal
 
 abbrev pub invariant-kinds : goal.invariant-kinds

@@ -1,5 +1,4 @@
-use Rattle.std.proofs.Common.{◌≡◌, ◌<◌, ◌+◌, ◌≤◌, length-append, min, ◌++◌, ◌∷◌, [], List, length, sym, ap, ◌∙◌, subst, arith, append_assoc}
-use Rattle.parser.proofs.Common.{append-nil, place_of, all_kinds, yield, plain, Child, Node, AreBelow, most, tree, kinds_in, AreChildren, IsSplitAt, Here, Used_up, Whole, plain_of}
+use Rattle.parser.proofs.Common.{◌≡◌, ◌<◌, ◌+◌, ◌≤◌, length-append, min, ◌++◌, ◌∷◌, [], List, length, sym, ap, ◌∙◌, subst, arith, append_assoc, append-nil, place_of, all_kinds, yield, plain, Child, Node, AreBelow, most, tree, kinds_in, AreChildren, IsSplitAt, Here, Used_up, Whole, plain_of}
 use Rattle.parser.specs.Cuts.{Opened}
 use Rattle.parser.proofs.LeftEdge.{weight}
 use Rattle.parser.proofs.Cuts.{counted, not_counted, opened_below, opened_kinds, opened_lighter, place_push, taken_lighter}

@@ -1,5 +1,4 @@
-use Rattle.std.proofs.Common.{◌≡◌, ◌+◌, ◌≤◌, ◌++◌, List, length}
-use Rattle.parser.proofs.Common.{place_of, Child, AreBelow, most, IsSplitAt, plain_of}
+use Rattle.parser.proofs.Common.{◌≡◌, ◌+◌, ◌≤◌, ◌++◌, List, length, place_of, Child, AreBelow, most, IsSplitAt, plain_of}
 use Rattle.parser.proofs.LeftEdge.{weight}
 use Rattle.parser.proofs.prepare.take_prefix.Given as goal
 

@@ -1,5 +1,4 @@
-use Rattle.std.proofs.Common.{◌≡◌, ℕ, List, subst}
-use Rattle.patterns.proofs.Common.{chars, PatternFault, IsFault, Refusal, Fault, Reports}
+use Rattle.patterns.proofs.Common.{◌≡◌, ℕ, List, subst, chars, PatternFault, IsFault, Refusal, Fault, Reports}
 use Rattle.patterns.proofs.Runs.{refused}
 use Rattle.patterns.proofs.Pattern.read.Goals as goal
 

@@ -1,5 +1,4 @@
-use Rattle.std.proofs.Common.{◌≡◌, ◌+◌, ◌<◌, ◌≤◌, ◌^◌, drop}
-use Rattle.patterns.proofs.Common.{braced, digits}
+use Rattle.patterns.proofs.Common.{◌≡◌, ◌+◌, ◌<◌, ◌≤◌, ◌^◌, drop, braced, digits}
 use Rattle.patterns.proofs.characters.by_number.Given as goal
 
 abbrev pub invariant-loop-count : goal.invariant-loop-count

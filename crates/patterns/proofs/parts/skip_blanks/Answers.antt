@@ -1,5 +1,4 @@
-use Rattle.std.proofs.Common.{arith}
-use Rattle.patterns.proofs.Common.{writing}
+use Rattle.patterns.proofs.Common.{arith, writing}
 use Rattle.patterns.proofs.Blanks.{no_blanks, one_more_blank}
 use Rattle.patterns.proofs.parts.skip_blanks.Goals as goal
 

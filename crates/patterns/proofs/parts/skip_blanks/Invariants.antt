@@ -1,5 +1,4 @@
-use Rattle.std.proofs.Common.{◌≤◌, length}
-use Rattle.patterns.proofs.Common.{writing, IsBlanks}
+use Rattle.patterns.proofs.Common.{◌≤◌, length, writing, IsBlanks}
 use Rattle.patterns.proofs.parts.skip_blanks.Given as goal
 
 abbrev pub invariant-loop-after : goal.invariant-loop-after

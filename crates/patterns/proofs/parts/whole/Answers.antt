@@ -1,5 +1,4 @@
-use Rattle.std.proofs.Common.{◌∙◌, ap}
-use Rattle.patterns.proofs.Common.{Outside, ARepetition, fault_from}
+use Rattle.patterns.proofs.Common.{◌∙◌, ap, Outside, ARepetition, fault_from}
 use Rattle.patterns.proofs.Repeats.{read_whole}
 use Rattle.patterns.proofs.parts.whole.Goals as goal
 

@@ -1,5 +1,4 @@
-use Rattle.std.proofs.Common.{ap, ◌∙◌, ◌≡◌, ◌++◌, string_bytes}
-use Rattle.pieces.proofs.Common.{chars, IsUtf8-append, chars-append}
+use Rattle.pieces.proofs.Common.{ap, ◌∙◌, ◌≡◌, ◌++◌, string_bytes, chars, IsUtf8-append, chars-append}
 use Rattle.pieces.proofs.piece.join_three.Goals as goal
 
 pub returns : goal.returns

@@ -1,5 +1,4 @@
-use Rattle.std.proofs.Common.{sym, ap, ◌∙◌, take, drop}
-use Rattle.pieces.proofs.Common.{chars, units, Utf8}
+use Rattle.pieces.proofs.Common.{sym, ap, ◌∙◌, take, drop, chars, units, Utf8}
 use Rattle.pieces.proofs.Borders.{border}
 use Rattle.pieces.proofs.places.split.Goals as goal
 

@@ -1,6 +1,4 @@
-use Rattle.std.proofs.lemmas.Grind.{common_steps}
-use Rattle.std.proofs.Common.{arith, sym, ap, ◌∙◌, ◌≡◌, ◌+◌, ◌≤◌, ℕ, List, [], ◌∷◌, ◌++◌, take, slice_index}
-use Rattle.pieces.proofs.Common.{take_more, units, Utf8, sums_of, most, joined, line_sums, ascii_units, sums_laws}
+use Rattle.pieces.proofs.Common.{arith, sym, ap, ◌∙◌, ◌≡◌, ◌+◌, ◌≤◌, ℕ, List, [], ◌∷◌, ◌++◌, take, slice_index, take_more, units, Utf8, sums_of, most, joined, line_sums, ascii_units, sums_laws}
 use Rattle.pieces.proofs.Joins.{sums_of-more}
 use Rattle.pieces.proofs.Lines.{ascii-more, ascii-fits}
 use Rattle.pieces.proofs.sums.of_ascii.Goals as goal
@@ -38,6 +36,3 @@ loop-byte-preserved c =
                 ∙ ap sums_of (sym next);
           }
     ]
-
-pub returns : goal.returns
-returns c = grind (arith, common_steps)

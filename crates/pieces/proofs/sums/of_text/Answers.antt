@@ -1,5 +1,4 @@
-use Rattle.std.proofs.Common.{◌≡◌, ◌≤◌, ℕ, List, [], ◌∷◌, ◌++◌, arith, refl, sym, ap, subst, ◌∙◌}
-use Rattle.pieces.proofs.Common.{chars, YieldsList-from_chars, chars-IsAscii, units, Utf8, sums_of, joined, line_sums, most, sums_laws}
+use Rattle.pieces.proofs.Common.{◌≡◌, ◌≤◌, ℕ, List, [], ◌∷◌, ◌++◌, arith, refl, sym, ap, subst, ◌∙◌, chars, YieldsList-from_chars, chars-IsAscii, units, Utf8, sums_of, joined, line_sums, most, sums_laws}
 use Rattle.pieces.proofs.Joins.{sums_of-more, units-chars}
 use Rattle.pieces.proofs.Lines.{joined-line-more, line-room}
 use Rattle.pieces.proofs.KnownPrefix.{few_prefix}

@@ -1,5 +1,4 @@
-use Rattle.std.proofs.Common.{◌≡◌, drop}
-use Rattle.productions.proofs.Common.{nullable_by}
+use Rattle.productions.proofs.Common.{◌≡◌, drop, nullable_by}
 use Rattle.productions.proofs.first.are_nullable.Given as goal
 
 abbrev pub invariant-loop-s : goal.invariant-loop-s

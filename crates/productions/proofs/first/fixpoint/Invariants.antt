@@ -1,5 +1,4 @@
-use Rattle.std.proofs.Common.{◌≡◌, ◌+◌, length, false}
-use Rattle.productions.proofs.Common.{AreTrue, AreClosed, on, unmarked}
+use Rattle.productions.proofs.Common.{◌≡◌, ◌+◌, length, false, AreTrue, AreClosed, on, unmarked}
 use Rattle.productions.proofs.first.fixpoint.Given as goal
 
 abbrev pub invariant-loop-more : goal.invariant-loop-more

@@ -1,5 +1,4 @@
-use Rattle.std.proofs.Common.{sym, ap}
-use Rattle.replies.proofs.Common.{code_of}
+use Rattle.replies.proofs.Common.{sym, ap, code_of}
 use Rattle.replies.proofs.reply.code_of.Goals as goal
 
 pub returns-in-ParseError : goal.returns-in-ParseError

@@ -1,5 +1,4 @@
-use Rattle.std.proofs.Common.{subst}
-use Rattle.replies.proofs.Common.{Logs, text}
+use Rattle.replies.proofs.Common.{subst, Logs, text}
 use Rattle.replies.proofs.Objects.{sends_object, sends_member}
 use Rattle.replies.proofs.results.send_capability_list.Goals as goal
 

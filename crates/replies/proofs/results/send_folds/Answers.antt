@@ -1,5 +1,4 @@
-use Rattle.std.proofs.Common.{map, refl, arith}
-use Rattle.replies.proofs.Common.{on_ok_weaker, items_of, fold_data}
+use Rattle.replies.proofs.Common.{map, refl, arith, on_ok_weaker, items_of, fold_data}
 use Rattle.replies.proofs.SentItems.{sent_more, all_sent}
 use Rattle.replies.proofs.results.send_folds.Goals as goal
 

@@ -1,5 +1,4 @@
-use Rattle.std.proofs.Common.{map, drop}
-use Rattle.replies.proofs.Common.{Log, SendsItems, items_of, fold_data}
+use Rattle.replies.proofs.Common.{map, drop, Log, SendsItems, items_of, fold_data}
 use Rattle.replies.proofs.results.send_folds.Given as goal
 
 -- whatever sends what is left sends all

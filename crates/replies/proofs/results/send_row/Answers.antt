@@ -1,5 +1,4 @@
-use Rattle.std.proofs.Common.{ap, subst, ◌∙◌, string_bytes}
-use Rattle.replies.proofs.Common.{on_ok_weaker, Logs, text}
+use Rattle.replies.proofs.Common.{ap, subst, ◌∙◌, string_bytes, on_ok_weaker, Logs, text}
 use Rattle.replies.proofs.results.send_row.Goals as goal
 
 pub returns : goal.returns
@@ -13,11 +12,7 @@ returns g c =
       (
         w c.str.new.self,
         name,
-        (
-          w c.u64.new.self,
-          c.in_ok-u64.ensures,
-          (w c.u64-2.new.self, c.in_ok-u64-2.ensures, (w c.u64-3.new.self, c.in_ok-u64-3.ensures, (w c.u64-4.new.self, c.in_ok-u64-4.ensures, e))),
-        ),
+        (w c.u64.new.self, c.in_ok-u64.ensures, (w c.u64-2.new.self, c.in_ok-u64-2.ensures, (w c.u64-3.new.self, c.in_ok-u64-3.ensures, (w c.u64-4.new.self, c.in_ok-u64-4.ensures, e)))),
       ),
     ))
     c.end_seq.ensures

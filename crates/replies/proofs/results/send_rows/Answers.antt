@@ -1,5 +1,4 @@
-use Rattle.std.proofs.Common.{map, refl, subst, arith}
-use Rattle.replies.proofs.Common.{on_ok_weaker, SendsValue, items_of, row_data, row_view}
+use Rattle.replies.proofs.Common.{map, refl, subst, arith, on_ok_weaker, SendsValue, items_of, row_data, row_view}
 use Rattle.replies.proofs.SentItems.{sent_more, all_sent}
 use Rattle.replies.proofs.results.send_rows.Goals as goal
 

@@ -1,5 +1,4 @@
-use Rattle.std.proofs.Common.{◌≡◌, Result, rules, map, sym, subst, to_z, of_z, to_z-of_z, w32}
-use Rattle.replies.proofs.Common.{OnOk, ⊤, Log, SendsValue, Reply, id_view, text_reply, selections_reply, reply_data, reply_view}
+use Rattle.replies.proofs.Common.{◌≡◌, Result, rules, map, sym, subst, to_z, of_z, to_z-of_z, w32, OnOk, ⊤, Log, SendsValue, Reply, id_view, text_reply, selections_reply, reply_data, reply_view}
 use Rattle.replies.proofs.sending.send_reply.Goals as goal
 
 -- what was sent of the reply that it is

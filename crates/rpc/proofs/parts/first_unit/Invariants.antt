@@ -1,5 +1,4 @@
-use Rattle.std.proofs.Common.{◌≡◌, drop}
-use Rattle.rpc.proofs.Common.{items_view, first_unit}
+use Rattle.rpc.proofs.Common.{◌≡◌, drop, items_view, first_unit}
 use Rattle.rpc.proofs.parts.first_unit.Given as goal
 
 -- none of the items so far names a unit

@@ -1,5 +1,4 @@
-use Rattle.std.proofs.Common.{refl, sym, ◌∙◌, arith}
-use Rattle.rpc.proofs.Common.{position_of, positions_of}
+use Rattle.rpc.proofs.Common.{refl, sym, ◌∙◌, arith, position_of, positions_of}
 use Rattle.rpc.proofs.ListItems.{read_more, unread, all_read}
 use Rattle.rpc.proofs.parts.positions_of.Goals as goal
 

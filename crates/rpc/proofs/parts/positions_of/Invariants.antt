@@ -1,5 +1,4 @@
-use Rattle.std.proofs.Common.{◌≡◌, ◌++◌, List, drop, option_map}
-use Rattle.rpc.proofs.Common.{items_view, Position, positions_of}
+use Rattle.rpc.proofs.Common.{◌≡◌, ◌++◌, List, drop, option_map, items_view, Position, positions_of}
 use Rattle.rpc.proofs.parts.positions_of.Given as goal
 
 -- the positions so far, and those of what is left

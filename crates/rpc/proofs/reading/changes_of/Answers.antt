@@ -1,5 +1,4 @@
-use Rattle.std.proofs.Common.{refl, sym, ap, ◌∙◌, map, arith, option_map}
-use Rattle.rpc.proofs.Common.{map-append, change_view, change_of, changes_of}
+use Rattle.rpc.proofs.Common.{refl, sym, ap, ◌∙◌, map, arith, option_map, map-append, change_view, change_of, changes_of}
 use Rattle.rpc.proofs.ListItems.{read_more, unread, all_read}
 use Rattle.rpc.proofs.reading.changes_of.Goals as goal
 

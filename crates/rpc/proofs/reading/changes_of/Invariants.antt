@@ -1,5 +1,4 @@
-use Rattle.std.proofs.Common.{◌≡◌, ◌++◌, List, map, drop, option_map}
-use Rattle.rpc.proofs.Common.{items_view, TextChange, change_view, changes_of}
+use Rattle.rpc.proofs.Common.{◌≡◌, ◌++◌, List, map, drop, option_map, items_view, TextChange, change_view, changes_of}
 use Rattle.rpc.proofs.reading.changes_of.Given as goal
 
 -- the changes so far, and those of what is left

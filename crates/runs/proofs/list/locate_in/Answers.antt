@@ -1,5 +1,4 @@
-use Rattle.std.proofs.Common.{ℕ, arith, sym, ap, ◌∙◌, ◌≡◌, ◌+◌, take, below_more}
-use Rattle.runs.proofs.Common.{total}
+use Rattle.runs.proofs.Common.{ℕ, arith, sym, ap, ◌∙◌, ◌≡◌, ◌+◌, take, below_more, total}
 use Rattle.runs.proofs.Totals.{walked}
 use Rattle.runs.proofs.list.locate_in.Goals.{After-reached}
 use Rattle.runs.proofs.list.locate_in.Goals as goal

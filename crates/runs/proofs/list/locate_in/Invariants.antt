@@ -1,5 +1,4 @@
-use Rattle.std.proofs.Common.{◌≡◌, ℕ, ◌+◌, ◌<◌, take, false}
-use Rattle.runs.proofs.Common.{total}
+use Rattle.runs.proofs.Common.{◌≡◌, ℕ, ◌+◌, ◌<◌, take, false, total}
 use Rattle.runs.proofs.list.locate_in.Given as goal
 
 -- no item so far reaches it

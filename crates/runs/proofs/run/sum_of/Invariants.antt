@@ -1,5 +1,4 @@
-use Rattle.std.proofs.Common.{◌≡◌, take}
-use Rattle.runs.proofs.Common.{total}
+use Rattle.runs.proofs.Common.{◌≡◌, take, total}
 use Rattle.runs.proofs.run.sum_of.Given as goal
 
 abbrev pub invariant-loop-item : goal.invariant-loop-item

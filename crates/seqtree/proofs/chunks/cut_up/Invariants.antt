@@ -1,5 +1,4 @@
-use Rattle.std.proofs.Common.{◌++◌, List, reverse}
-use Rattle.seqtree.specs.Chunks.{AreCut}
+use Rattle.seqtree.proofs.Common.{◌++◌, List, reverse, AreCut}
 use Rattle.seqtree.proofs.chunks.cut_up.Given as goal
 
 -- whatever what is left is cut into, with the chunks so far after it

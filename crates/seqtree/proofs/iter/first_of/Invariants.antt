@@ -1,6 +1,4 @@
-use Rattle.std.proofs.Common.{◌≡◌, ◌++◌, drop, length, ◌+◌, ◌<◌, ◌≤◌}
-use Rattle.seqtree.specs.Tree.{items_of, height_of}
-use Rattle.seqtree.specs.Parts.{part_items, items_ahead, AreParts}
+use Rattle.seqtree.proofs.Common.{◌≡◌, ◌++◌, drop, length, ◌+◌, ◌<◌, ◌≤◌, items_of, height_of, part_items, items_ahead, AreParts}
 use Rattle.seqtree.proofs.iter.first_of.Given as goal
 
 -- what is left below, and then on the stack, is what is left

@@ -1,7 +1,4 @@
-use Rattle.std.proofs.lemmas.Grind.{common_steps}
-use Rattle.std.proofs.Common.{ap, ◌∙◌, arith, rules}
-use Rattle.seqtree.specs.Tree.{items_of}
-use Rattle.seqtree.specs.Monoid.{total}
+use Rattle.seqtree.proofs.Common.{ap, ◌∙◌, arith, rules, items_of, total}
 use Rattle.seqtree.proofs.HeightBound.{IsLow-fork, high-fork}
 use Rattle.seqtree.proofs.Totals.{total-around}
 use Rattle.seqtree.proofs.tree.fork.Goals as goal
@@ -21,6 +18,3 @@ invariant_of-node g c =
       all_is = c.sum_with_right.ensures ∙ (ap (λ s. op s right) (c.sum_with_left.ensures ∙ ap (op left) c.sum.ensures)
           ∙ total-around g.T.Measured.measure g.met.T.Sum.Monoid.laws _ c.node.inside.item _);
     }
-
-pub returns-clause-items : goal.returns-clause-items
-returns-clause-items g c = grind (arith, common_steps)

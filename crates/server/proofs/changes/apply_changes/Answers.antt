@@ -1,5 +1,4 @@
-use Rattle.std.proofs.Common.{◌-◌, ℤ, w32, map, length, subst, arith}
-use Rattle.server.proofs.Common.{to_z-of_z, open_document, change_view, IsAfter, is_lost, Becomes, entry_view, becomes_by_parts, lost_by_parts}
+use Rattle.server.proofs.Common.{◌-◌, ℤ, w32, map, length, subst, arith, to_z-of_z, open_document, change_view, IsAfter, is_lost, Becomes, entry_view, becomes_by_parts, lost_by_parts}
 use Rattle.server.proofs.changes.apply_changes.Goals as goal
 
 pub returns-in-Ok-clause-becomes : goal.returns-in-Ok-clause-becomes

@@ -1,5 +1,4 @@
-use Rattle.std.proofs.Common.{◌≡◌, ◌↔◌, ◌∙◌, ◌+◌, ap, sym, subst, List, map, take, ℕ, true, false, Option, Some, Err, Ok, Result, arith}
-use Rattle.server.proofs.Common.{chars, changed, Encoding, last_edit, open_document, IsNext, LastEdit, OpenDocument, fits, DocFault, Memory, change_view, is_lost, Becomes, IsLastAfter, after, ends_there, goes_on, last_goes_on, may_lose, true_from_ne_false, common_steps}
+use Rattle.server.proofs.Common.{◌≡◌, ◌↔◌, ◌∙◌, ◌+◌, ap, sym, subst, List, map, take, ℕ, true, false, Option, Some, Err, Ok, Result, chars, changed, Encoding, last_edit, open_document, IsNext, LastEdit, OpenDocument, fits, DocFault, Memory, change_view, is_lost, Becomes, IsLastAfter, after, ends_there, goes_on, last_goes_on, may_lose, true_from_ne_false, arith, common_steps}
 use Rattle.docs.specs.declared.doc.DocFault.TheVariants.{TooLarge}
 use Rattle.rpc.specs.Loss.TheVariants as loss
 use Rattle.server.proofs.Refusals.{either_fault}

@@ -1,5 +1,4 @@
-use Rattle.std.proofs.Common.{◌≡◌, map, take, Some}
-use Rattle.server.proofs.Common.{last_edit, IsCurrent, change_view, edited, IsLastAfter}
+use Rattle.server.proofs.Common.{◌≡◌, map, take, Some, last_edit, IsCurrent, change_view, edited, IsLastAfter}
 use Rattle.server.proofs.changes.apply_each.Given as goal
 
 abbrev pub invariant-loop-change : goal.invariant-loop-change

@@ -1,5 +1,4 @@
-use Rattle.std.proofs.Common.{◌≡◌, ℕ, ℤ, w32, List, true, false, ap, sym, subst, ◌∙◌, None, Err, if◌then◌else◌}
-use Rattle.server.proofs.Common.{chars, to_z-of_z, open_document, OpenDocument, fits, DocFault, Encoding, TooLarge, is_open, is_lost, new_document}
+use Rattle.server.proofs.Common.{◌≡◌, ℕ, ℤ, w32, List, true, false, ap, sym, subst, ◌∙◌, None, Err, if◌then◌else◌, chars, to_z-of_z, open_document, OpenDocument, fits, DocFault, Encoding, TooLarge, is_open, is_lost, new_document}
 use Rattle.server.proofs.entry.open_entry.Goals as goal
 
 abbrev first : Encoding → ℤ → List ℕ → OpenDocument

@@ -1,5 +1,4 @@
-use Rattle.std.proofs.Common.{◌≡◌, ◌++◌, None}
-use Rattle.server.proofs.Common.{into_iter_items, contents, Served, state_view}
+use Rattle.server.proofs.Common.{◌≡◌, ◌++◌, None, into_iter_items, contents, Served, state_view}
 use Rattle.server.proofs.stream.serve_all.Given as goal
 
 abbrev pub invariant-loop-frame : goal.invariant-loop-frame

@@ -1,5 +1,4 @@
-use Rattle.std.proofs.Common.{[], ◌∷◌, map, subst, sym}
-use Rattle.server.proofs.Common.{err_from_is_err_and, received_of, received_in, reply_view, RunFault, ServedInPart, IsCutShort, state_view}
+use Rattle.server.proofs.Common.{[], ◌∷◌, map, subst, sym, err_from_is_err_and, received_of, received_in, reply_view, RunFault, ServedInPart, IsCutShort, state_view}
 use Rattle.server.proofs.Runs.{step_of_received, one_run}
 use Rattle.server.proofs.CutSessions.{cut_off, part_nothing}
 use Rattle.server.proofs.stream.serve_content.Goals as goal

@@ -1,6 +1,4 @@
-use Rattle.std.proofs.Common.{◌≡◌, ◌<◌, ◌+◌, None, Option, ℕ, true, length, slice_index_or, sym, subst, ◌∙◌, arith, IfSome}
-use Rattle.tables.proofs.Common.{length-set, CallsFor, kind_of, Item, rank, item_of}
-use Rattle.definitions.specs.Items.{Move}
+use Rattle.tables.proofs.Common.{◌≡◌, ◌<◌, ◌+◌, None, Option, ℕ, true, length, slice_index_or, sym, subst, ◌∙◌, arith, IfSome, length-set, CallsFor, kind_of, Item, rank, item_of, LrMove as Move}
 use Rattle.tables.proofs.LookaheadMarks.{mark_more, mark_none}
 use Rattle.tables.proofs.decisions.columns_of_calls.Goals as goal
 use Rattle.tables.proofs.decisions.columns_of_calls.Goals.{in-Some, in_default}

@@ -1,5 +1,4 @@
-use Rattle.std.proofs.Common.{◌≡◌, length, sym, ◌∙◌, subst, arith, rules}
-use Rattle.tables.proofs.Common.{IsSound, common_steps}
+use Rattle.tables.proofs.Common.{◌≡◌, length, sym, ◌∙◌, subst, arith, rules, IsSound, common_steps}
 use Rattle.tables.proofs.ProductionsOfFile.{all_of_them, shape_sound}
 use Rattle.tables.proofs.tables.copy_productions.Goals as goal
 

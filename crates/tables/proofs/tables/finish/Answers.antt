@@ -1,5 +1,4 @@
-use Rattle.std.proofs.Common.{length, sym, ap, subst, ◌∙◌}
-use Rattle.tables.proofs.Common.{Made, AreMade}
+use Rattle.tables.proofs.Common.{length, sym, ap, subst, ◌∙◌, Made, AreMade}
 use Rattle.tables.proofs.Finishing.{tables_all}
 use Rattle.tables.proofs.tables.finish.Goals as goal
 

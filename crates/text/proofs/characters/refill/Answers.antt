@@ -1,5 +1,4 @@
-use Rattle.std.proofs.Common.{arith, ap, sym, ◌∙◌, ◌≡◌, ◌++◌, ℕ, List, [], ◌∷◌, length}
-use Rattle.text.proofs.Common.{text_in, chars, chars-nil}
+use Rattle.text.proofs.Common.{arith, ap, sym, ◌∙◌, ◌≡◌, ◌++◌, ℕ, List, [], ◌∷◌, length, text_in, chars, chars-nil}
 use Rattle.text.proofs.characters.refill.Goals as goal
 
 none : (bs : List ℕ) → length bs ≡ 0 → chars bs ≡ []

@@ -1,5 +1,4 @@
-use Rattle.std.proofs.Common.{arith}
-use Rattle.std.proofs.lemmas.Grind.{common_steps}
+use Rattle.trees.proofs.Common.{arith, common_steps}
 use Rattle.trees.proofs.node.pack_many.Goals as goal
 
 pub returns-clause-are : goal.returns-clause-are

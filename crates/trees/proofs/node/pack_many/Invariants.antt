@@ -1,5 +1,4 @@
-use Rattle.std.proofs.Common.{◌≡◌, map, take}
-use Rattle.trees.proofs.Common.{unpack}
+use Rattle.trees.proofs.Common.{◌≡◌, map, take, unpack}
 use Rattle.trees.proofs.node.pack_many.Given as goal
 
 abbrev pub invariant-loop-child : goal.invariant-loop-child

@@ -1,5 +1,4 @@
-use Rattle.std.proofs.Common.{rules, ◌<◌, length}
-use Rattle.trees.proofs.Common.{Rule, Node, Token}
+use Rattle.trees.proofs.Common.{rules, ◌<◌, length, Rule, Node, Token}
 use Rattle.trees.proofs.Slides.{next_below}
 use Rattle.trees.proofs.node.rename_children.Goals as goal
 

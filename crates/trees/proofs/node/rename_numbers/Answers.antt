@@ -1,5 +1,4 @@
-use Rattle.std.proofs.Common.{◌∙◌, ap, sym, subst, length, arith}
-use Rattle.trees.proofs.Common.{IsBelow, unpack, common_steps}
+use Rattle.trees.proofs.Common.{◌∙◌, ap, sym, subst, length, IsBelow, unpack}
 use Rattle.trees.proofs.Slides.{same_next, stands_below}
 use Rattle.trees.proofs.node.rename_numbers.Goals as goal
 
@@ -9,6 +8,3 @@ bounds-names-id c =
     let same = same_next c.loop-number.numbers c.args.numbers.now i 0 c.loop-number.invariant.rest in
     subst (IsBelow (length c.args.names.now)) (ap unpack (sym same) ∙ sym c.unpack.ensures ∙ c.in-Node.is)
     (stands_below unpack (length c.args.names.now) c.args.numbers.now i 0 c.requires.below c.loop-number-test.true)
-
-pub loop-number-preserved : goal.loop-number-preserved
-loop-number-preserved c = grind (arith, common_steps)

@@ -1,5 +1,4 @@
-use Rattle.std.proofs.lemmas.Grind.{common_steps}
-use Rattle.std.proofs.Common.{rules, ◌<◌, length, get_or, arith}
+use Rattle.trees.proofs.Common.{rules, ◌<◌, length, get_or}
 use Rattle.trees.proofs.Slides.{next-root_below}
 use Rattle.trees.proofs.slide.rename_roots.Goals as goal
 
@@ -12,6 +11,3 @@ offset_bounds-ranks-root c =
 pub bounds-ranks-root : goal.bounds-ranks-root
 bounds-ranks-root c = next-root_below (length c.args.ranks.now) c.loop-root.roots c.args.roots.now c.loop-root.root-index
     (record { index = 0 }) c.loop-root.invariant.rest c.requires c.loop-root-test.true
-
-pub loop-root-preserved : goal.loop-root-preserved
-loop-root-preserved c = grind (arith, common_steps)

@@ -1,6 +1,5 @@
-use Rattle.std.proofs.Common.{◌+◌, set, sym, subst, rules, arith}
+use Rattle.trees.proofs.Common.{◌+◌, set, sym, subst, rules, arith, common_steps}
 use Rattle.trees.proofs.Slides.{IsSlidTo, slid_skip, slid_step, swapped_below}
-use Rattle.trees.proofs.Common.{common_steps}
 use Rattle.trees.proofs.slide.slide.Goals.{then-marks-i, else-marks-i}
 use Rattle.trees.proofs.slide.slide.Goals as goal
 

@@ -1,5 +1,4 @@
-use Rattle.std.proofs.Common.{string_bytes}
-use Rattle.views.proofs.Common.{IsUtf8-string_bytes}
+use Rattle.views.proofs.Common.{string_bytes, IsUtf8-string_bytes}
 use Rattle.views.proofs.FaultDiagnostic.{message_written}
 use Rattle.views.proofs.diagnoses.message_of.Goals as goal
 

@@ -1,6 +1,5 @@
-use Rattle.std.proofs.Common.{ap, sym}
+use Rattle.views.proofs.Common.{ap, sym, name_or_end}
 use Rattle.std.specs.Str.{chars}
-use Rattle.definitions.specs.Answers.{name_or_end}
 use Rattle.views.proofs.diagnoses.name_or_end.Goals as goal
 
 pub returns-in-None : goal.returns-in-None

@@ -1,6 +1,4 @@
-use lib.Utf8.{encode}
-use Rattle.std.proofs.Common.{rules, ◌≡◌, ◌∙◌, ◌++◌, ◌∷◌, [], List, ℕ, ap, refl, sym, subst, option_map, string_bytes}
-use Rattle.views.proofs.Common.{codes, IsUtf8-string_bytes, Rule, listed, name_or_end}
+use Rattle.views.proofs.Common.{encode, rules, ◌≡◌, ◌∙◌, ◌++◌, ◌∷◌, [], List, ℕ, ap, refl, sym, subst, option_map, string_bytes, codes, IsUtf8-string_bytes, Rule, listed, name_or_end}
 use Rattle.std.specs.Str.{chars}
 use Rattle.views.proofs.FaultDiagnostic.{IsListing, names_of, listing_begun, listing_more}
 use Rattle.views.proofs.diagnoses.write_looks.Goals as goal
@@ -11,10 +9,7 @@ loop-look-init c =
     let bytes = string_bytes c.args.reported.now in
     let all : List ℕ = chars bytes ++ listed (names_of names c.args.looks) in
     let same : c.into_iter-look-iterator.result ≡ c.args.looks = c.into_iter-look-iterator.ensures.into_iter_gives in
-    record {
-      text = ([], (refl, refl));
-      listing = subst (IsListing names all bytes []) (sym same) (listing_begun names bytes c.args.looks);
-    }
+    record { text = ([], (refl, refl)); listing = subst (IsListing names all bytes []) (sym same) (listing_begun names bytes c.args.looks) }
 
 pub loop-look-preserved : goal.loop-look-preserved
 unfolding encode

@@ -1,8 +1,5 @@
-use denote.Shadow.{shadow}
-use denote.Text.{Utf8}
-use Rattle.std.proofs.Common.{◌++◌, string_bytes}
+use Rattle.views.proofs.Common.{shadow, Utf8, ◌++◌, string_bytes, listed}
 use Rattle.std.specs.Str.{chars}
-use Rattle.definitions.specs.Answers.{listed}
 use Rattle.views.proofs.FaultDiagnostic.{IsListing, names_of}
 use Rattle.views.proofs.diagnoses.write_looks.Given as goal
 

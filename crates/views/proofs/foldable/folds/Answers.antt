@@ -1,5 +1,4 @@
-use Rattle.std.proofs.Common.{arith, ℕ, List, ap, length, map, subst, sym, ◌∙◌}
-use Rattle.views.proofs.Common.{dedup_is, plain, AreAscending, AreSpanned, placed_parts, trees_of_roots}
+use Rattle.views.proofs.Common.{arith, ℕ, List, ap, length, map, subst, sym, ◌∙◌, dedup_is, plain, AreAscending, AreSpanned, placed_parts, trees_of_roots}
 use Rattle.views.proofs.LinesOfTokens.{lines_ascend, length-lines, length-significant}
 use Rattle.views.proofs.FoldsSorted.{shown_are_folds}
 use Rattle.views.proofs.foldable.folds.Goals as goal

@@ -1,8 +1,7 @@
-use Rattle.std.proofs.Common.{◌≡◌, ◌∙◌, [], Result, Ok, Err, MatchResult, IfOk, length, slice_index_or, ap, sym}
+use Rattle.views.proofs.Common.{◌≡◌, ◌∙◌, [], Result, Ok, Err, MatchResult, IfOk, length, slice_index_or, ap, sym, kind_name, ltb-true}
 use Rattle.std.proofs.lemmas.List.{get_or-map}
 use Rattle.std.specs.Str.{chars}
 use Rattle.std.specs.String.{string_bytes}
-use Rattle.views.proofs.Common.{kind_name, ltb-true}
 use Rattle.views.proofs.rows.shared_name.Goals as goal
 
 if_ok : {A E : Type 0} {P Q : A → Type 0} (F : E → Type 0) (r : Result A E) → ((a : A) → P a → Q a) → MatchResult r P F → IfOk r Q

@@ -1,5 +1,4 @@
-use Rattle.std.proofs.Common.{◌≡◌, ◌∙◌, ◌∷◌, ◌++◌, [], ap, sym, subst}
-use Rattle.views.proofs.Common.{kind_name, Row, row_bytes}
+use Rattle.views.proofs.Common.{◌≡◌, ◌∙◌, ◌∷◌, ◌++◌, [], ap, sym, subst, kind_name, Row, row_bytes}
 use Rattle.views.proofs.RowsOfTokens.{IsReported, shown_more}
 use Rattle.views.proofs.rows.token_rows.Goals as goal
 

@@ -1,5 +1,4 @@
-use Rattle.std.proofs.Common.{◌≡◌, ◌++◌, map, reverse}
-use Rattle.views.proofs.Common.{range_of}
+use Rattle.views.proofs.Common.{◌≡◌, ◌++◌, map, reverse, range_of}
 use Rattle.views.proofs.selections.ranges_of.Given as goal
 
 abbrev pub invariant-loop-start : goal.invariant-loop-start

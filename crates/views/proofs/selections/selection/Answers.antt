@@ -1,5 +1,4 @@
-use Rattle.std.proofs.Common.{ap, ◌≤◌, map, sym, ◌∙◌, subst, arith, All, length, count_by, reverse}
-use Rattle.views.proofs.Common.{IfOk-weaker, range_of, FileGrammar, is_significant, plain, IsAround, IsSpanOf, placed_parts}
+use Rattle.views.proofs.Common.{ap, ◌≤◌, map, sym, ◌∙◌, subst, arith, All, length, count_by, reverse, IfOk-weaker, range_of, FileGrammar, is_significant, plain, IsAround, IsSpanOf, placed_parts}
 use Rattle.views.proofs.SelectionOfOffset.{roots_fit, spans_stand, selected_roots}
 use Rattle.views.proofs.selections.selection.Goals as goal
 

@@ -1,5 +1,4 @@
-use Rattle.std.proofs.Common.{◌≡◌, ◌+◌, ◌-◌, ◌<◌, ℕ, List, [], ◌∷◌, ◌++◌, length, map, take, drop, get_or, sym, ap, ◌∙◌, arith}
-use Rattle.views.proofs.Common.{between, take_more, take_all, map-append, length-map, drop-map, between_to_end, Placed, placed, significant, plain, inside, offsets_of}
+use Rattle.views.proofs.Common.{◌≡◌, ◌+◌, ◌-◌, ◌<◌, ℕ, List, [], ◌∷◌, ◌++◌, length, map, take, drop, get_or, sym, ap, ◌∙◌, arith, between, take_more, take_all, map-append, length-map, drop-map, between_to_end, Placed, placed, significant, plain, inside, offsets_of}
 use Rattle.views.proofs.SpansAround.{shortened_is}
 use Rattle.views.proofs.selections.selection_offsets.Goals as goal
 

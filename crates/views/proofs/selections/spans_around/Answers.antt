@@ -1,5 +1,4 @@
-use Rattle.std.proofs.Common.{◌≡◌, [], ◌∷◌, ◌++◌, length, sym, ap, ◌∙◌, subst, arith, append_assoc, IfSome}
-use Rattle.views.proofs.Common.{dedup, append-nil, dedup_is, AreBelow, is_same, spans_all, trees_of_roots}
+use Rattle.views.proofs.Common.{◌≡◌, [], ◌∷◌, ◌++◌, length, sym, ap, ◌∙◌, subst, arith, append_assoc, IfSome, dedup, append-nil, dedup_is, AreBelow, is_same, spans_all, trees_of_roots}
 use Rattle.views.proofs.Children.{pending, IsNext, found_next, found_pending, children_fit, children_pending, children_below}
 use Rattle.views.proofs.selections.spans_around.Goals as goal
 

@@ -1,5 +1,4 @@
-use Rattle.std.proofs.Common.{arith, ap, lit<, ◌∙◌, ◌++◌, string_bytes}
-use Rattle.views.proofs.Common.{IsUtf8-string_bytes, all_below-more}
+use Rattle.views.proofs.Common.{arith, ap, lit<, ◌∙◌, ◌++◌, string_bytes, IsUtf8-string_bytes, all_below-more}
 use Rattle.views.proofs.Writing.{begun}
 use Rattle.views.proofs.tree.begin.Goals as goal
 

@@ -1,5 +1,4 @@
-use Rattle.std.proofs.Common.{◌≡◌, slice_index, sym, ◌∙◌, ap, arith, []}
-use Rattle.views.proofs.Common.{get_or-map, get_or_past, chars-nil, Production, left_of, FileGrammar, lefts}
+use Rattle.views.proofs.Common.{◌≡◌, slice_index, sym, ◌∙◌, ap, arith, [], get_or-map, get_or_past, chars-nil, Production, left_of, FileGrammar, lefts}
 use Rattle.views.proofs.tree.name_of.Goals as goal
 use Rattle.views.proofs.tree.name_of.Goals.{then-production-productions, else-production-productions}
 

@@ -1,6 +1,5 @@
-use Rattle.std.proofs.Common.{◌≡◌, ◌++◌, ◌∷◌, [], List, ℕ, length, lit<, refl, sym, ap, ◌∙◌, ◌<◌, arith, string_bytes, encode_utf8_all}
+use Rattle.views.proofs.Common.{◌≡◌, ◌++◌, ◌∷◌, [], List, ℕ, length, lit<, refl, sym, ap, ◌∙◌, ◌<◌, arith, string_bytes, encode_utf8_all, IsUtf8-string_bytes, encodes-chars, NodeId, Child, Cell, tree, FileGrammar, text_of}
 use Rattle.std.specs.Str.{chars}
-use Rattle.views.proofs.Common.{IsUtf8-string_bytes, encodes-chars, NodeId, Child, Cell, tree, FileGrammar, text_of}
 use Rattle.definitions.specs.TreeEdits.{plain}
 use Rattle.trees.specs.declared.store.Child.TheVariants.{Node}
 use Rattle.views.proofs.Writing.{IsWriting, pending, writing_begun, writing_closed, writing_token, writing_node, smaller_closed, smaller_token, smaller_node, child_text, written}

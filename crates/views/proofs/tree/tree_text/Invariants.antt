@@ -1,7 +1,6 @@
-use Rattle.std.proofs.Common.{length, string_bytes}
+use Rattle.views.proofs.Common.{length, string_bytes, tree, text_of}
 use Rattle.definitions.specs.TreeEdits.{plain}
 use Rattle.trees.specs.declared.store.Child.TheVariants.{Node}
-use Rattle.views.proofs.Common.{tree, text_of}
 use Rattle.views.proofs.Writing.{pending, IsWriting}
 use Rattle.views.proofs.tree.tree_text.Given as goal
 

@@ -1,5 +1,4 @@
-use Rattle.std.proofs.Common.{arith, ◌≡◌, ◌⊎◌, ℕ, List, Option, take, suc, IfSome, ◌+◌, ◌*◌, ◌-◌, ◌<◌, ◌≤◌, Some, None, drop, length, length-drop, slice_index_or, subst, sym, ◌∙◌, inl, inr, refl, ap}
-use Rattle.dfa.proofs.Common.{get_or-drop, All-nil, Expression, IsCharacter, IsText, IsCharacter-from_scalar, Match, IsNoted, Table, follower, part, state_after, width, IsAutomaton, IsWithinReach}
+use Rattle.dfa.proofs.Common.{arith, ◌≡◌, ◌⊎◌, ℕ, List, Option, take, suc, IfSome, ◌+◌, ◌*◌, ◌-◌, ◌<◌, ◌≤◌, Some, None, drop, length, length-drop, slice_index_or, subst, sym, ◌∙◌, inl, inr, refl, ap, get_or-drop, All-nil, Expression, IsCharacter, IsText, IsCharacter-from_scalar, Match, IsNoted, Table, follower, part, state_after, width, IsAutomaton, IsWithinReach}
 use Rattle.dfa.proofs.Numbers.{numbered_positive}
 use Rattle.dfa.proofs.LongestMatch.{AreBounds, read_none, read_anew, read_on, kept_noted, kept_prefixes, kept_text, keeps_on, state_after-none, within_reach, Ends, piece_of, reach_of, more_state, more_text, more_prefix, more_first, more_dead, prefixes_more}
 use Rattle.dfa.proofs.automaton.Automaton.longest.Given.{Over}
@@ -28,11 +27,7 @@ next-c-requires-clause-window g c =
 -- what the better of two matches leaves as it was
 longer_is : (rest read : ℕ) (old new : Match) → read ≤ rest → (new ≡ old) ⊎ ((0 < read) × (new.length ≡ read)) → AreBounds rest old → AreBounds rest new
 longer_is rest read old new within (inl same) h = subst (AreBounds rest) (sym same) h
-longer_is rest read old new within (inr e) h = record {
-  inside = omega (arith, e);
-  nonempty = λ some. omega (arith, e);
-  at_end = λ none. absurd (omega (arith, e));
-}
+longer_is rest read old new within (inr e) h = record { inside = omega (arith, e); nonempty = λ some. omega (arith, e); at_end = λ none. absurd (omega (arith, e)) }
 
 -- no state leads to the first one
 positive : (table : Table) (s x t : ℕ) → follower table s x ≡ Some t → 0 < t

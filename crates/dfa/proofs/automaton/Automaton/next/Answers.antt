@@ -1,5 +1,4 @@
-use Rattle.std.proofs.Common.{◌≡◌, ◌<◌, ◌+◌, length, arith, ap, sym, ◌∙◌, subst, slice_index_or, nat_le}
-use Rattle.dfa.proofs.Common.{get_or_default, prefix_len-le-length, part, follower, numbered, IsState, table_of}
+use Rattle.dfa.proofs.Common.{◌≡◌, ◌<◌, ◌+◌, length, arith, ap, sym, ◌∙◌, subst, slice_index_or, nat_le, get_or_default, prefix_len-le-length, part, follower, numbered, IsState, table_of}
 use Rattle.dfa.proofs.Numbers.{entry_is, entry_within, numbered_some}
 use Rattle.dfa.proofs.automaton.Automaton.next.Goals.{After-part, After-from}
 use Rattle.dfa.proofs.automaton.Automaton.next.Goals as goal

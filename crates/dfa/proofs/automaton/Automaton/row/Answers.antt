@@ -1,5 +1,4 @@
-use Rattle.std.proofs.Common.{arith, sym, subst, ◌∙◌, ◌≡◌, ◌-◌, ap, ℕ, List, drop, length, length-drop, take, slice_index_or, Some}
-use Rattle.dfa.proofs.Common.{take_all, IsState, IsAsciiRow, follower, common_steps}
+use Rattle.dfa.proofs.Common.{arith, sym, subst, ◌∙◌, ◌≡◌, ◌-◌, ap, ℕ, List, drop, length, length-drop, take, slice_index_or, Some, take_all, IsState, IsAsciiRow, follower}
 use Rattle.dfa.proofs.Numbers.{row_follower, row_wide}
 use Rattle.dfa.proofs.automaton.Automaton.row.Goals as goal
 
@@ -27,6 +26,3 @@ returns c = λ number x some lt e.
     let read : slice_index_or (drop s.row a.next.items) (slice_index_or a.ascii.items x 0) 0 ≡ number =
     (λ i. slice_index_or (entries i) (slice_index_or (sym c.as_slice.ensures.value i) x 0) 0) ∙ e in
     subst (λ t. follower t s.number x ≡ Some number) c.self.view_is (row_follower a.starts.items a.ascii.items a.next.items a.accepts.items c.self.invariant s is number x some lt read)
-
-pub offset_bounds-deref-state : goal.offset_bounds-deref-state
-offset_bounds-deref-state c = grind (arith, common_steps)

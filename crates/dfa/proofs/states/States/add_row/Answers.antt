@@ -1,5 +1,4 @@
-use Rattle.std.proofs.Common.{◌≡◌, ◌∷◌, [], ◌++◌, length, ap, sym, ◌∙◌, subst, arith}
-use Rattle.dfa.proofs.Common.{AreRows, AreStates, members, common_steps}
+use Rattle.dfa.proofs.Common.{◌≡◌, ◌∷◌, [], ◌++◌, length, ap, sym, ◌∙◌, subst, arith, AreRows, AreStates, members}
 use Rattle.dfa.proofs.AddedRow.{parts_rise, within_parts}
 use Rattle.dfa.proofs.RowOfTrees.{followers_below, followers_rise, row_made, row_reached, set_rises, set_within}
 use Rattle.dfa.proofs.Trees.{trees_count, trees_counted}
@@ -100,6 +99,3 @@ returns-clause-rows c = λ rules starts a r.
     c.args.self.now.next.items c.add_entries.new.self.next.items accepts c.first_end-rule.result c.deref-2.result.now c.deref-4.result.now c.in_ok-followers.followers.items
     c.deref-9.result.now at c.deref-2.ensures.value c.deref-4.ensures.value c.in_ok-followers.ensures c.deref-9.ensures.value c.first_end-rule.ensures r states
     c.in_ok-add_entries.ensures.grows (c.in_ok-add_entries.ensures.bound r.bound) c.in_ok-add_entries.ensures.entries)
-
-pub index-set-requires : goal.index-set-requires
-index-set-requires c = grind (arith, common_steps)

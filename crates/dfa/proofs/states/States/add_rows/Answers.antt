@@ -1,5 +1,4 @@
-use Rattle.std.proofs.Common.{◌≡◌, ℕ, ◌-◌, ◌<◌, ◌∙◌, Vec, Global, IfErr, length, arith, rules}
-use Rattle.dfa.proofs.Common.{IfErr-weaker, TooManyStates, length-map, members}
+use Rattle.dfa.proofs.Common.{◌≡◌, ℕ, ◌-◌, ◌<◌, ◌∙◌, Vec, Global, IfErr, length, arith, rules, IfErr-weaker, TooManyStates, length-map, members}
 use Rattle.dfa.proofs.StateCount.{many_states}
 use Rattle.dfa.proofs.states.States.add_rows.Goals as goal
 

@@ -1,5 +1,4 @@
-use Rattle.std.proofs.Common.{◌≡◌, ◌-◌, ℕ, List, length}
-use Rattle.dfa.proofs.Common.{Expression, AreBlank, all_counts, AreRows, AreRules, members}
+use Rattle.dfa.proofs.Common.{◌≡◌, ◌-◌, ℕ, List, length, Expression, AreBlank, all_counts, AreRows, AreRules, members}
 use Rattle.dfa.proofs.states.States.add_rows.Given as goal
 
 abbrev pub invariant-rows : goal.invariant-rows

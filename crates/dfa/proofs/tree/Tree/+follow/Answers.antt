@@ -1,5 +1,4 @@
-use Rattle.std.proofs.Common.{arith}
-use Rattle.dfa.proofs.Common.{marks_of, common_steps}
+use Rattle.dfa.proofs.Common.{arith, marks_of, common_steps}
 use Rattle.dfa.proofs.Trees.{none_added}
 use Rattle.dfa.proofs.tree.Tree.+follow.Goals as goal
 

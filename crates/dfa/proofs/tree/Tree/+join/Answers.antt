@@ -1,5 +1,4 @@
-use Rattle.std.proofs.Common.{◌+◌, rules}
-use Rattle.dfa.proofs.Common.{IfOk-weaker}
+use Rattle.dfa.proofs.Common.{◌+◌, rules, IfOk-weaker}
 use Rattle.dfa.proofs.Trees.{joined_in}
 use Rattle.dfa.proofs.tree.Tree.+join.Goals as goal
 

@@ -1,5 +1,4 @@
-use Rattle.std.proofs.Common.{◌≡◌, ◌≤◌, ◌+◌, ◌-◌, length, min, refl, ap, sym, subst, ◌∙◌, arith}
-use Rattle.docs.proofs.Common.{chars, edit, length-edit, AreMadeBy, AreOlder, AreStamped, all_trees, forest_in, last_edit, edit_of, common_steps}
+use Rattle.docs.proofs.Common.{◌≡◌, ◌≤◌, ◌+◌, ◌-◌, length, min, refl, ap, sym, subst, ◌∙◌, arith, chars, edit, length-edit, AreMadeBy, AreOlder, AreStamped, all_trees, forest_in, last_edit, edit_of, common_steps}
 use Rattle.docs.proofs.Edits.{next_is, next_later, next_positive, number_after_edit, same_edit}
 use Rattle.docs.proofs.Refusals.{IsText-changed, large_edit, passed_on, after_text, all_made}
 use Rattle.docs.proofs.doc.Doc.change.Goals as goal
@@ -41,12 +40,7 @@ returns-clause-changed c =
     let inserted : c.len.result - (c.len-before.result - (c.span-from.result.1 - c.span-from.result.0)) ≡ length s =
     omega (arith, long, c.len.ensures.count, ap length c.in_ok-replace.ensures.edited, c.len-before.ensures.count, c.span-from.ensures.ordered, c.span-from.ensures.in_range) in
     let edit = same_edit old.unit old.text c.args.range s c.span-from.result _ c.saturating_add.result next.parse.number c.span-from.ensures.is inserted (sym settled.number) in
-    let stamped : AreStamped l.file _ old next = record {
-      tokens = settled.stamps.tokens;
-      nodes = settled.stamps.nodes;
-      older = settled.stamps.older;
-      anew = settled.stamps.anew;
-    } in
+    let stamped : AreStamped l.file _ old next = record { tokens = settled.stamps.tokens; nodes = settled.stamps.nodes; older = settled.stamps.older; anew = settled.stamps.anew } in
     let trees = all_trees old.store old.parse.stack in
     let fits : old.parse.number ≤ 18_446_744_073_709_551_615 = omega (arith, c.number.type_inv, c.number.ensures) in
     record {

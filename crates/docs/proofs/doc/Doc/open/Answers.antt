@@ -1,5 +1,4 @@
-use Rattle.std.proofs.Common.{◌≡◌, ◌≤◌, ◌∙◌, length, ap, refl, subst, sym, arith}
-use Rattle.docs.proofs.Common.{All-weaker, IsParseOf, chars, fits, significant_kinds, true_from_ne_false}
+use Rattle.docs.proofs.Common.{◌≡◌, ◌≤◌, ◌∙◌, length, ap, refl, subst, sym, arith, All-weaker, IsParseOf, chars, fits, significant_kinds, true_from_ne_false}
 use Rattle.docs.proofs.Refusals.{large_text, passed_on, text_made, after_text, all_made}
 use Rattle.docs.proofs.doc.Doc.open.Goals as goal
 

@@ -1,19 +1,11 @@
-use Rattle.std.proofs.Common.{◌≤◌, refl, sym, subst, arith, All}
-use Rattle.docs.proofs.Common.{Built, Doc, IsParseOf, plain_of, significant_kinds}
+use Rattle.docs.proofs.Common.{◌≤◌, refl, sym, subst, arith, All, Built, Doc, IsParseOf, plain_of, significant_kinds}
 use Rattle.docs.proofs.Stamps.{born_on, stamped_so}
 use Rattle.docs.proofs.doc.Doc.settle.Goals as goal
 
 pub rescan-requires : goal.rescan-requires
 rescan-requires c =
     let leads = c.requires.leads in
-    record {
-      text = c.requires.was;
-      piece = leads.0;
-      tokens = c.requires.current.tokens;
-      inside = leads.1;
-      inserted = leads.2;
-      new_text = leads.3;
-    }
+    record { text = c.requires.was; piece = leads.0; tokens = c.requires.current.tokens; inside = leads.1; inserted = leads.2; new_text = leads.3 }
 
 pub returns-clause-settled : goal.returns-clause-settled
 returns-clause-settled c =

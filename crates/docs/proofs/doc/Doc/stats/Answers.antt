@@ -1,5 +1,4 @@
-use Rattle.std.proofs.Common.{rules}
-use Rattle.docs.proofs.Common.{Stats}
+use Rattle.docs.proofs.Common.{rules, Stats}
 use Rattle.docs.proofs.Edits.{stats_are}
 use Rattle.docs.proofs.doc.Doc.stats.Goals as goal
 

@@ -1,5 +1,4 @@
-use Rattle.std.proofs.Common.{◌≡◌, IfOk, length, ap, subst, sym, ◌∙◌, encode_utf8_all}
-use Rattle.docs.proofs.Common.{encodes-chars, lexicon_of, AreTokensOf}
+use Rattle.docs.proofs.Common.{◌≡◌, IfOk, length, ap, subst, sym, ◌∙◌, encode_utf8_all, encodes-chars, lexicon_of, AreTokensOf}
 use Rattle.docs.proofs.AsciiTexts.{its_bytes}
 use Rattle.docs.proofs.language.Language.scan.Goals as goal
 

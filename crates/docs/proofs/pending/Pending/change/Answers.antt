@@ -1,5 +1,4 @@
-use Rattle.std.proofs.Common.{◌≡◌, ◌≤◌, ◌-◌, ◌∙◌, ℕ, length, refl, sym, ap, subst, arith, Option, Some, None, Err, MatchOption}
-use Rattle.docs.proofs.Common.{chars, Edit, IsText, edit, length-edit, TooLarge, Memory, LeadsTo, number_or, true_from_ne_false, common_steps}
+use Rattle.docs.proofs.Common.{◌≡◌, ◌≤◌, ◌-◌, ◌∙◌, ℕ, length, refl, sym, ap, subst, arith, Option, Some, None, Err, MatchOption, chars, Edit, IsText, edit, length-edit, TooLarge, Memory, LeadsTo, number_or, true_from_ne_false, common_steps}
 use Rattle.docs.proofs.Edits.{next_later, next_positive}
 use Rattle.docs.proofs.JoinedEdits.{leads_first, small_edit}
 use Rattle.docs.proofs.Refusals.{IsText-changed, large_edit, passed_on, text_made}

@@ -1,5 +1,4 @@
-use Rattle.std.proofs.Common.{arith}
-use Rattle.docs.proofs.Common.{fits_from}
+use Rattle.docs.proofs.Common.{arith, fits_from}
 use Rattle.docs.proofs.pending.Pending.new.Goals as goal
 
 pub returns-clause-fits : goal.returns-clause-fits

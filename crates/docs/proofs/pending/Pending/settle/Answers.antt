@@ -1,5 +1,4 @@
-use Rattle.std.proofs.Common.{◌≡◌, ◌≤◌, arith, ap, refl, length, sym, subst, rules, Option, MatchOption}
-use Rattle.docs.proofs.Common.{Edit, IsSettled, LeadsTo}
+use Rattle.docs.proofs.Common.{◌≡◌, ◌≤◌, arith, ap, refl, length, sym, subst, rules, Option, MatchOption, Edit, IsSettled, LeadsTo}
 use Rattle.docs.proofs.pending.Pending.settle.Goals as goal
 
 pub settle-requires : goal.settle-requires
@@ -7,13 +6,7 @@ settle-requires c =
     let doc = c.args.self.now.doc in
     let was = c.requires.was in
     let leads = subst (λ (o : Option Edit). MatchOption o (doc.text ≡ was) (λ e. LeadsTo was e doc.text × (doc.parse.number ≤ e.number) × (1 ≤ e.number))) c.in-Some.is c.requires.leads in
-    record {
-      was = was;
-      current = c.requires.current;
-      leads = leads.0;
-      later = leads.1;
-      numbered = leads.2;
-    }
+    record { was = was; current = c.requires.current; leads = leads.0; later = leads.1; numbered = leads.2 }
 
 pub returns-clause-settled : goal.returns-clause-settled
 returns-clause-settled c =

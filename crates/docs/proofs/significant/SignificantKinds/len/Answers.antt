@@ -1,5 +1,4 @@
-use Rattle.std.proofs.Common.{sym, ◌∙◌, filter}
-use Rattle.docs.proofs.Common.{length-map, length-filter, is_significant, kind_in}
+use Rattle.docs.proofs.Common.{sym, ◌∙◌, filter, length-map, length-filter, is_significant, kind_in}
 use Rattle.docs.proofs.significant.SignificantKinds.len.Goals as goal
 
 pub returns : goal.returns

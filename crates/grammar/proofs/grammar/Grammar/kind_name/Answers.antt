@@ -1,6 +1,6 @@
-use Rattle.std.proofs.Common.{◌≡◌, refl, ◌∙◌, sym, ap, ℕ, List, [], ◌∷◌, rules}
+use Rattle.grammar.proofs.Common.{◌≡◌, refl, ◌∙◌, sym, ap, ℕ, List, [], ◌∷◌, kind_name, Invalid}
+use Rattle.std.proofs.Common.{rules}
 use Rattle.std.specs.Str.{chars}
-use Rattle.grammar.proofs.Common.{kind_name, Invalid}
 use Rattle.grammar.proofs.grammar.Grammar.kind_name.Goals as goal
 
 invalid : (names : List (List ℕ)) → chars (105 ∷ 110 ∷ 118 ∷ 97 ∷ 108 ∷ 105 ∷ 100 ∷ []) ≡ kind_name names Invalid

@@ -1,5 +1,4 @@
-use Rattle.std.proofs.Common.{arith}
-use Rattle.grammar.proofs.Common.{common_steps}
+use Rattle.grammar.proofs.Common.{arith, common_steps}
 use Rattle.grammar.proofs.grammar.Grammar.left.Goals as goal
 
 pub returns : goal.returns

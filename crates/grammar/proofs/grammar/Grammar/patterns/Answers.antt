@@ -1,5 +1,5 @@
-use Rattle.std.proofs.Common.{◌≤◌, arith, length, rules, subst}
-use Rattle.grammar.proofs.Common.{FileGrammar}
+use Rattle.grammar.proofs.Common.{◌≤◌, arith, length, subst, FileGrammar}
+use Rattle.std.proofs.Common.{rules}
 use Rattle.grammar.proofs.grammar.Grammar.patterns.Goals as goal
 
 pub returns-clause-is : goal.returns-clause-is

@@ -1,5 +1,4 @@
-use Rattle.std.proofs.Common.{◌∙◌, ap}
-use Rattle.grammar_file.proofs.Common.{is_among}
+use Rattle.grammar_file.proofs.Common.{◌∙◌, ap, is_among}
 use Rattle.grammar_file.proofs.NameLookUps.{among-keys}
 use Rattle.grammar_file.proofs.name_set.NameSet.contains.Goals as goal
 

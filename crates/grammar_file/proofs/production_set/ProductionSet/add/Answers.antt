@@ -1,5 +1,4 @@
-use Rattle.std.proofs.Common.{◌∙◌, ap, map}
-use Rattle.grammar_file.proofs.Common.{texts, with_names}
+use Rattle.grammar_file.proofs.Common.{◌∙◌, ap, map, texts, with_names}
 use Rattle.grammar_file.proofs.Sets.{keys-with}
 use Rattle.grammar_file.proofs.production_set.ProductionSet.add.Goals as goal
 use Rattle.grammar_file.proofs.production_set.ProductionSet.add.Goals.{in-Ok, in-Err}

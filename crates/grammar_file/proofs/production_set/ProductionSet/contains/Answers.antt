@@ -1,5 +1,4 @@
-use Rattle.std.proofs.Common.{◌∙◌, ap}
-use Rattle.grammar_file.proofs.Common.{list_any, bytes_eq, pointwise, are_among}
+use Rattle.grammar_file.proofs.Common.{◌∙◌, ap, list_any, bytes_eq, pointwise, are_among}
 use Rattle.grammar_file.proofs.Sets.{among-keys}
 use Rattle.grammar_file.proofs.production_set.ProductionSet.contains.Goals as goal
 

@@ -1,5 +1,4 @@
-use Rattle.std.proofs.Common.{◌∙◌, ap, sym, map, unwrap_or}
-use Rattle.grammar_file.proofs.Common.{length-map, bytes_eq, number_of}
+use Rattle.grammar_file.proofs.Common.{◌∙◌, ap, sym, map, unwrap_or, length-map, bytes_eq, number_of}
 use Rattle.grammar_file.proofs.TestedItems.{place-map}
 use Rattle.grammar_file.proofs.rules.Rules.number.Goals as goal
 

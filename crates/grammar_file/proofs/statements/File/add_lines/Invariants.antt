@@ -1,5 +1,4 @@
-use Rattle.std.proofs.Common.{take}
-use Rattle.grammar_file.proofs.Common.{statements_in, texts, IsRead}
+use Rattle.grammar_file.proofs.Common.{take, statements_in, texts, IsRead}
 use Rattle.grammar_file.proofs.statements.File.add_lines.Given as goal
 
 abbrev pub invariant-loop-index : goal.invariant-loop-index

@@ -1,5 +1,4 @@
-use Rattle.std.proofs.Common.{refl, sym, ap, ◌∙◌, ◌++◌, ◌∷◌, [], subst}
-use Rattle.grammar_file.proofs.Common.{at, IfSome_then, MatchResult-weaker, defines, limit_fault, line_view, lines_view, AreNames}
+use Rattle.grammar_file.proofs.Common.{refl, sym, ap, ◌∙◌, ◌++◌, ◌∷◌, [], subst, at, IfSome_then, MatchResult-weaker, defines, limit_fault, line_view, lines_view, AreNames}
 use Rattle.grammar_file.proofs.Lines.{read-step, limit_line_fault}
 use Rattle.grammar_file.proofs.statements.File.add_statement.Goals as goal
 

@@ -1,5 +1,4 @@
-use Rattle.std.proofs.Common.{arith, refl, None, Some}
-use Rattle.std.proofs.lemmas.Str.Pattern.{strip_suffix_char}
+use Rattle.grammar_line.proofs.Common.{arith, refl, None, Some, strip_suffix_char}
 use Rattle.grammar_line.proofs.Marked.{marked-by, unmarked-by}
 use Rattle.grammar_line.proofs.right_word.RightWord.read.Goals as goal
 

@@ -1,5 +1,4 @@
-use Rattle.std.proofs.Common.{◌∷◌, ◌++◌, ◌<◌, [], length, sym, ◌∙◌, subst, ⊎_elim, arith}
-use Rattle.item_sets.proofs.Common.{eqb-true, eqb-false, cases_lt, HasKernel}
+use Rattle.item_sets.proofs.Common.{◌∷◌, ◌++◌, ◌<◌, [], length, sym, ◌∙◌, subst, ⊎_elim, arith, eqb-true, eqb-false, cases_lt, HasKernel}
 use Rattle.item_sets.proofs.AddedKernels.{placed_goes_on, placed_states, no_item}
 use Rattle.item_sets.proofs.collection.States.goto.Goals as goal
 

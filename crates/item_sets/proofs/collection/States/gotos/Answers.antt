@@ -1,5 +1,4 @@
-use Rattle.std.proofs.Common.{◌≡◌, ◌<◌, ◌+◌, ◌∷◌, ◌++◌, [], length, length-append, slice_index_or, ap, sym, ◌∙◌, subst, arith}
-use Rattle.item_sets.proofs.Common.{get_or_default, IsStep, IsOrdered, HasKernel, symbol_of}
+use Rattle.item_sets.proofs.Common.{◌≡◌, ◌<◌, ◌+◌, ◌∷◌, ◌++◌, [], length, length-append, slice_index_or, ap, sym, ◌∙◌, subst, arith, get_or_default, IsStep, IsOrdered, HasKernel, symbol_of}
 use Rattle.item_sets.proofs.GotosGrow.{goes_on_trans, steps_more}
 use Rattle.item_sets.proofs.collection.States.gotos.Goals as goal
 

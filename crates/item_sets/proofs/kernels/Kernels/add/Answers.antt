@@ -1,6 +1,4 @@
-use Rattle.std.proofs.Common.{refl}
-use Rattle.item_sets.proofs.Common.{length-map}
-use Rattle.std.proofs.Common.{arith}
+use Rattle.item_sets.proofs.Common.{refl, length-map, arith}
 use Rattle.item_sets.proofs.VectorSets.{items_of, found_items, list_after}
 use Rattle.item_sets.proofs.kernels.Kernels.add.Goals as goal
 use Rattle.item_sets.proofs.kernels.Kernels.add.Goals.{in-Ok, in-Err}

@@ -1,5 +1,4 @@
-use Rattle.std.proofs.Common.{◌≡◌, ◌<◌, ◌+◌, ℕ, arith, length, slice_index_or, ap, subst, ◌∙◌, ⊎_elim, inl, inr}
-use Rattle.item_sets.proofs.Common.{cases_eq, get_or_default, right_of, lookahead_at, CallFor, IsGrownBy}
+use Rattle.item_sets.proofs.Common.{◌≡◌, ◌<◌, ◌+◌, ℕ, arith, length, slice_index_or, ap, subst, ◌∙◌, ⊎_elim, inl, inr, cases_eq, get_or_default, right_of, lookahead_at, CallFor, IsGrownBy}
 use Rattle.item_sets.proofs.Grown.{grown_twice}
 use Rattle.item_sets.proofs.worklist.Worklist.expand.Goals as goal
 

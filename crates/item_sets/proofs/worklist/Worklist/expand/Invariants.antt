@@ -1,5 +1,4 @@
-use Rattle.std.proofs.Common.{◌<◌, ℕ, slice_index_or}
-use Rattle.item_sets.proofs.Common.{right_of, lookahead_at, IsGrownBy, CallFor}
+use Rattle.item_sets.proofs.Common.{◌<◌, ℕ, slice_index_or, right_of, lookahead_at, IsGrownBy, CallFor}
 use Rattle.item_sets.proofs.worklist.Worklist.expand.Given as goal
 
 abbrev pub invariant-loop-p : goal.invariant-loop-p

@@ -1,5 +1,4 @@
-use Rattle.std.proofs.Common.{rules, ◌≡◌, ◌<◌, ◌≤◌, true, length, slice_index_or, ap, sym, subst, ⊎_elim, arith, ◌∙◌}
-use Rattle.item_sets.proofs.Common.{cases_eq, get_or_default, Contains-get_or, Entry, after_dot, Kernel, marked, AreMarked, CallFor, IsExpanded}
+use Rattle.item_sets.proofs.Common.{rules, ◌≡◌, ◌<◌, ◌≤◌, true, length, slice_index_or, ap, sym, subst, ⊎_elim, arith, ◌∙◌, cases_eq, get_or_default, Contains-get_or, Entry, after_dot, Kernel, marked, AreMarked, CallFor, IsExpanded}
 use Rattle.item_sets.proofs.FirstKernel.{start_item}
 use Rattle.item_sets.proofs.InRange.{all_marked}
 use Rattle.item_sets.proofs.WorklistIsRight.{expanded_called}

@@ -1,5 +1,4 @@
-use Rattle.std.proofs.Common.{rules, ◌≡◌, ℕ, ◌↔◌}
-use Rattle.item_sets.proofs.Common.{on_ok_weaker, MayFollow, lookahead_at}
+use Rattle.item_sets.proofs.Common.{rules, ◌≡◌, ℕ, ◌↔◌, on_ok_weaker, MayFollow, lookahead_at}
 use Rattle.item_sets.proofs.worklist.Worklist.insert_before.Goals as goal
 
 pub returns-in-Some : goal.returns-in-Some

@@ -1,5 +1,4 @@
-use Rattle.std.proofs.Common.{◌≡◌, length}
-use Rattle.lexer.proofs.Common.{significant_kinds}
+use Rattle.lexer.proofs.Common.{◌≡◌, length, significant_kinds}
 use Rattle.lexer.proofs.ahead.KindsAheadIterator.next.Given as goal
 
 -- only skipped tokens were passed

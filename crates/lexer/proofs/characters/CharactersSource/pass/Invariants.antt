@@ -1,5 +1,4 @@
-use Rattle.std.proofs.Common.{length, ◌-◌, true}
-use Rattle.lexer.proofs.Common.{IsCharacter}
+use Rattle.lexer.proofs.Common.{length, ◌-◌, true, IsCharacter}
 use Rattle.lexer.proofs.Passes.{ArePassed}
 use Rattle.lexer.proofs.characters.CharactersSource.pass.Given as goal
 

@@ -1,5 +1,4 @@
-use Rattle.std.proofs.Common.{arith, ap, sym, ◌∙◌, ◌≡◌, inl, inr, drop, count_by}
-use Rattle.lexer.proofs.Common.{cases_lt, drop_all, significant_kinds, is_significant}
+use Rattle.lexer.proofs.Common.{arith, ap, sym, ◌∙◌, ◌≡◌, inl, inr, drop, count_by, cases_lt, drop_all, significant_kinds, is_significant}
 use Rattle.lexer.proofs.SignificantKinds.{kinds_after, length-kinds}
 use Rattle.lexer.proofs.Totals.{significant_before, none_past}
 use Rattle.lexer.proofs.tokens.Tokens.kinds_from.Goals as goal

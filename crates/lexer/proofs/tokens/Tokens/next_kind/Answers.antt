@@ -1,5 +1,4 @@
-use Rattle.std.proofs.Common.{◌≡◌, ◌+◌, suc, List, drop, ap, subst, ◌∙◌, arith}
-use Rattle.lexer.proofs.Common.{YieldsFirst, Kind, significant_kinds}
+use Rattle.lexer.proofs.Common.{◌≡◌, ◌+◌, suc, List, drop, ap, subst, ◌∙◌, arith, YieldsFirst, Kind, significant_kinds}
 use Rattle.lexer.proofs.SignificantKinds.{next_of}
 use Rattle.lexer.proofs.tokens.Tokens.next_kind.Goals as goal
 

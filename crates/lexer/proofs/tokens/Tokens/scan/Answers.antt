@@ -1,5 +1,4 @@
-use Rattle.std.proofs.Common.{◌≡◌, ◌++◌, ◌∙◌, List, ap, arith, length, subst}
-use Rattle.lexer.proofs.Common.{lexicon_of, AreNext, Token}
+use Rattle.lexer.proofs.Common.{◌≡◌, ◌++◌, ◌∙◌, List, ap, arith, length, subst, lexicon_of, AreNext, Token}
 use Rattle.lexer.proofs.Scans.{next_all, next_few, next_join}
 use Rattle.lexer.proofs.tokens.Tokens.scan.Goals as goal
 
@@ -20,7 +19,4 @@ returns-clause-tokens g c =
     let t = g.S.Source.text c.args.source.now in
     let next = subst (λ f. AreNext f t 0 c.loop-at.items c.loop-at.at) c.new-scan.ensures c.loop-at.invariant in
     let end : c.loop-at.at ≡ length t = omega (arith, next.inside, c.loop-at-test.false, c.len.ensures) in
-    record {
-      tokens = next_all _ _ _ (subst (λ n. AreNext (lexicon_of c.args.grammar.now) t 0 c.loop-at.items n) end next);
-      marked = next.made.marked;
-    }
+    record { tokens = next_all _ _ _ (subst (λ n. AreNext (lexicon_of c.args.grammar.now) t 0 c.loop-at.items n) end next); marked = next.made.marked }

@@ -1,5 +1,4 @@
-use Rattle.std.proofs.Common.{arith, inr, ap, subst, ◌∙◌, ◌∷◌, length}
-use Rattle.lexer.proofs.Common.{IsWalk, common_steps}
+use Rattle.lexer.proofs.Common.{arith, inr, ap, subst, ◌∙◌, ◌∷◌, length, IsWalk}
 use Rattle.lexer.proofs.Totals.{few}
 use Rattle.lexer.proofs.Walks.{walk_on, passed_on, at_end}
 use Rattle.lexer.proofs.walk.Walk.go_to.Goals as goal
@@ -26,6 +25,3 @@ loop-self-preserved c =
       items = old.items;
       passed = λ h. passed_on w.items.now c.next.new.self x w.place w.start walk c.args.offset c.loop-self-test.true (old.passed h);
     })
-
-pub overflow_add-self : goal.overflow_add-self
-overflow_add-self c = grind (arith, common_steps)

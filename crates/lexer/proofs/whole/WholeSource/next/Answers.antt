@@ -1,5 +1,4 @@
-use Rattle.std.proofs.Common.{◌≡◌, ◌+◌, suc, drop, length, length-drop, ap, sym, ◌∙◌, arith}
-use Rattle.lexer.proofs.Common.{drop-cons, tail-eq_of_cons-eq}
+use Rattle.lexer.proofs.Common.{◌≡◌, ◌+◌, suc, drop, length, length-drop, ap, sym, ◌∙◌, arith, drop-cons, tail-eq_of_cons-eq}
 use Rattle.lexer.proofs.whole.WholeSource.next.Goals as goal
 
 pub unreachable-requires : goal.unreachable-requires

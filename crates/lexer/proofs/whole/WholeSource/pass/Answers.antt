@@ -1,5 +1,4 @@
-use Rattle.std.proofs.Common.{arith}
-use Rattle.std.proofs.lemmas.Grind.{common_steps}
+use Rattle.lexer.proofs.Common.{arith, common_steps}
 use Rattle.lexer.proofs.whole.WholeSource.pass.Goals as goal
 
 pub returns-clause-moved : goal.returns-clause-moved

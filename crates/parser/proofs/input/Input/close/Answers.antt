@@ -1,5 +1,4 @@
-use Rattle.std.proofs.Common.{subst}
-use Rattle.parser.proofs.Common.{BeginsWith}
+use Rattle.parser.proofs.Common.{subst, BeginsWith}
 use Rattle.parser.proofs.Inputs.{begins_none, still_empty}
 use Rattle.parser.proofs.input.Input.close.Goals as goal
 

@@ -1,5 +1,4 @@
-use Rattle.std.proofs.Common.{◌∷◌, ap, ◌∙◌}
-use Rattle.parser.proofs.Common.{backwards}
+use Rattle.parser.proofs.Common.{◌∷◌, ap, ◌∙◌, backwards}
 use Rattle.parser.proofs.Lists.{backwards-push}
 use Rattle.parser.proofs.input.Input.put.Goals as goal
 

@@ -1,5 +1,4 @@
-use Rattle.std.proofs.Common.{◌≡◌}
-use Rattle.parser.proofs.Common.{plain_of, input_of, IsInput, Offers, all_trees, ComeFrom}
+use Rattle.parser.proofs.Common.{◌≡◌, plain_of, input_of, IsInput, Offers, all_trees, ComeFrom}
 use Rattle.parser.proofs.LeftEdge.{weight}
 use Rattle.parser.proofs.Inputs.{IsOpening}
 use Rattle.parser.proofs.machine.Machine.first_input.Given as goal

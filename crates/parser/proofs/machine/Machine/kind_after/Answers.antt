@@ -1,5 +1,4 @@
-use Rattle.std.proofs.Common.{◌≡◌, ◌+◌, length, slice_get, ap, ◌∙◌, arith}
-use Rattle.parser.proofs.Common.{yield, plain, Node, tree}
+use Rattle.parser.proofs.Common.{◌≡◌, ◌+◌, length, slice_get, ap, ◌∙◌, arith, yield, plain, Node, tree}
 use Rattle.parser.proofs.SecondKind.{second_is}
 use Rattle.parser.proofs.Reusing.{counted}
 use Rattle.parser.proofs.machine.Machine.kind_after.Goals as goal

@@ -1,5 +1,4 @@
-use Rattle.std.proofs.Common.{◌≡◌, ◌+◌, ◌-◌, List, [], ◌∷◌, ◌++◌, length, length-take, take, drop, get_or, sym, ap, ◌∙◌, subst, rules, arith, length-append, Option}
-use Rattle.parser.proofs.Common.{Kind, Symbol, Nonterminal, Grammar, Tree, HaveRoots, append_cancel_right, length-roots, Reduces, goto_there, Handle, handle, reduces_roots, AreBelow, Node, IsStateOf, plain_of, HasStates, HasMade, common_steps}
+use Rattle.parser.proofs.Common.{◌≡◌, ◌+◌, ◌-◌, List, [], ◌∷◌, ◌++◌, length, length-take, take, drop, get_or, sym, ap, ◌∙◌, subst, rules, arith, length-append, Option, Kind, Symbol, Nonterminal, Grammar, Tree, HaveRoots, append_cancel_right, length-roots, Reduces, goto_there, Handle, handle, reduces_roots, AreBelow, Node, IsStateOf, plain_of, HasStates, HasMade, common_steps}
 use Rattle.parser.proofs.Reductions.{parts, reduced, states_after, state_under, plain-length, below-take, below-drop}
 use Rattle.parser.proofs.machine.Machine.reduce.Goals.{After-len, In_ok-push}
 use Rattle.parser.proofs.machine.Machine.reduce.Goals as goal

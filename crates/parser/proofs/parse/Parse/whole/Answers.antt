@@ -1,5 +1,4 @@
-use Rattle.std.proofs.Common.{[], ◌+◌, arith, drop, length, subst, sym, rules}
-use Rattle.parser.proofs.Common.{all_trees, input_of, IsInput, IsMadeByRun, AreOlder, common_steps}
+use Rattle.parser.proofs.Common.{[], ◌+◌, arith, drop, length, subst, sym, rules, all_trees, input_of, IsInput, IsMadeByRun, AreOlder, common_steps}
 use Rattle.parser.proofs.WholeRun.{plain_count, plain_stamps}
 use Rattle.parser.proofs.Running.{no_input}
 use Rattle.parser.proofs.Stamping.{none_in_nothing}

@@ -1,5 +1,4 @@
-use Rattle.std.proofs.Common.{not, [], ◌∷◌, refl, sym, ◌∙◌, ap}
-use Rattle.patterns.proofs.Common.{lt_trans, Outside, Nothing, ARepetition, fault_from, one_seq, one_rep, sequence, choice, Plain, writing, is_sound}
+use Rattle.patterns.proofs.Common.{not, [], ◌∷◌, refl, sym, ◌∙◌, ap, lt_trans, Outside, Nothing, ARepetition, fault_from, one_seq, one_rep, sequence, choice, Plain, writing, is_sound}
 use Rattle.patterns.proofs.Blanks.{among_blanks, blanks_skipped}
 use Rattle.patterns.proofs.Repeats.{of_level, repeated, no_stop, joined, enclosed, literal_part, class_part, group_opens, unclosed, as_group, hands_on}
 use Rattle.patterns.proofs.classes.Reader.+parts.Goals as goal

@@ -1,5 +1,4 @@
-use Rattle.std.proofs.Common.{ℕ, [], ◌∷◌, refl, sym, ◌∙◌, ap, subst, arith}
-use Rattle.patterns.proofs.Common.{Plain, InClass, Items, fault_from, IsClassChar, writing, place, common_steps}
+use Rattle.patterns.proofs.Common.{ℕ, [], ◌∷◌, refl, sym, ◌∙◌, ap, subst, Plain, InClass, Items, fault_from, IsClassChar, writing, place, arith, common_steps}
 use Rattle.patterns.proofs.Literals.{no_item, no_last, first_step}
 use Rattle.patterns.proofs.classes.Reader.item.Goals as goal
 

@@ -1,5 +1,4 @@
-use Rattle.std.proofs.Common.{◌≡◌, ℕ, ◌≤◌, [], length, Bool, true}
-use Rattle.patterns.proofs.Common.{list_all, InClass, Items, fault_from, is_range, writing}
+use Rattle.patterns.proofs.Common.{◌≡◌, ℕ, ◌≤◌, [], length, Bool, true, list_all, InClass, Items, fault_from, is_range, writing}
 use Rattle.patterns.proofs.Literals.{IsClassSoFar}
 use Rattle.patterns.proofs.classes.Reader.items.Given as goal
 

@@ -1,5 +1,4 @@
-use Rattle.std.specs.Prelude.{◌≡◌, ℕ, ◌^◌, ◌≤◌, List, ◌++◌}
-use Rattle.pieces.proofs.Common.{chars, Utf8, units, prefix_of, with_ones, room, IsPast, end_before_feed}
+use Rattle.pieces.proofs.Common.{◌≡◌, ℕ, ◌^◌, ◌≤◌, List, ◌++◌, chars, Utf8, units, prefix_of, with_ones, room, IsPast, end_before_feed}
 use Rattle.pieces.proofs.look_up.Prefix.offset_in.Given as goal
 
 abbrev pub invariant-loop-c : goal.invariant-loop-c

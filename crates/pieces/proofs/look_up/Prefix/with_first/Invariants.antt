@@ -1,5 +1,4 @@
-use Rattle.std.specs.Prelude.{◌≡◌, ℕ, ◌+◌, ◌^◌, ◌≤◌, List, ◌++◌, length}
-use Rattle.pieces.proofs.Common.{chars, Utf8, units, prefix_of, with_ones}
+use Rattle.pieces.proofs.Common.{◌≡◌, ℕ, ◌+◌, ◌^◌, ◌≤◌, List, ◌++◌, length, chars, Utf8, units, prefix_of, with_ones}
 use Rattle.pieces.proofs.look_up.Prefix.with_first.Given as goal
 
 abbrev pub invariant-loop-c : goal.invariant-loop-c

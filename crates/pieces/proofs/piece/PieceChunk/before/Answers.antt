@@ -1,5 +1,4 @@
-use Rattle.std.proofs.Common.{◌∙◌, ◌++◌}
-use Rattle.pieces.proofs.Common.{chars, append-nil, chars-nil}
+use Rattle.pieces.proofs.Common.{◌∙◌, ◌++◌, chars, append-nil, chars-nil}
 use Rattle.pieces.proofs.piece.PieceChunk.before.Goals as goal
 
 pub returns : goal.returns

@@ -1,5 +1,5 @@
-use Rattle.std.proofs.Common.{arith, sym, ap, inl, inr, ◌∙◌, ◌≡◌, ℕ, ◌+◌, ◌-◌, ◌*◌, ◌<◌, ◌≤◌, ◌⊎◌, List, length, take, drop, length-drop, string_bytes}
-use Rattle.pieces.proofs.Common.{IsUtf8, IsCharBoundary, IsUtf8-take, IsUtf8-drop, IsCharBoundary-start, cases_lt, take-append-drop, chars, chars-append, chars-nil, units, Utf8, IsCutOff, sums_of}
+use Rattle.pieces.proofs.Common.{arith, sym, ap, inl, inr, ◌∙◌, ◌≡◌, ℕ, ◌+◌, ◌-◌, ◌*◌, ◌<◌, ◌≤◌, ◌⊎◌, List, length, take, drop, string_bytes, IsUtf8, IsCharBoundary, IsUtf8-take, IsUtf8-drop, IsCharBoundary-start, cases_lt, take-append-drop, chars, chars-append, chars-nil, units, Utf8, IsCutOff, sums_of}
+use Rattle.std.proofs.Common.{length-drop}
 use Rattle.pieces.proofs.Borders.{near, not_past}
 use Rattle.pieces.proofs.Joins.{units-chars}
 use Rattle.pieces.proofs.piece.PieceChunk.cut_off.Goals as goal

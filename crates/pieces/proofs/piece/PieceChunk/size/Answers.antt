@@ -1,5 +1,4 @@
-use Rattle.std.proofs.Common.{ap, sym, ◌∙◌}
-use Rattle.pieces.proofs.Common.{chars, units, Utf8}
+use Rattle.pieces.proofs.Common.{ap, sym, ◌∙◌, chars, units, Utf8}
 use Rattle.pieces.proofs.Joins.{units-chars}
 use Rattle.pieces.proofs.piece.PieceChunk.size.Goals as goal
 

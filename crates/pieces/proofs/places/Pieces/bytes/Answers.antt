@@ -1,5 +1,4 @@
-use Rattle.std.proofs.Common.{arith, ◌∙◌, ◌≤◌}
-use Rattle.pieces.proofs.Common.{text_in, units, Utf8, most}
+use Rattle.pieces.proofs.Common.{arith, ◌∙◌, ◌≤◌, text_in, units, Utf8, most}
 use Rattle.pieces.proofs.Summed.{total-pieces}
 use Rattle.pieces.proofs.places.Pieces.bytes.Goals as goal
 

@@ -1,5 +1,4 @@
-use Rattle.std.proofs.Common.{arith, ap, sym, ◌≡◌, ◌∙◌, ◌≤◌, ℕ, List, [], ◌∷◌, length}
-use Rattle.pieces.proofs.Common.{chars, chars-nil}
+use Rattle.pieces.proofs.Common.{arith, ap, sym, ◌≡◌, ◌∙◌, ◌≤◌, ℕ, List, [], ◌∷◌, length, chars, chars-nil}
 use Rattle.pieces.proofs.CutAt.{some_after}
 use Rattle.pieces.proofs.places.Pieces.character.Goals as goal
 

@@ -1,5 +1,4 @@
-use Rattle.std.proofs.Common.{arith, ap}
-use Rattle.pieces.proofs.Common.{units, Utf8, text_in}
+use Rattle.pieces.proofs.Common.{arith, ap, units, Utf8, text_in}
 use Rattle.pieces.proofs.Joins.{units-nil}
 use Rattle.pieces.proofs.places.Pieces.new.Goals as goal
 

@@ -1,5 +1,4 @@
-use Rattle.pieces.proofs.Common.{text_in, chars, append_assoc, offset, units, Utf8, IsPast, end_before_feed, all_before, within_chunks, prefix-more, whole_at}
-use Rattle.std.proofs.Common.{arith, sym, ap, subst, ◌∙◌, cond, ◌≡◌, ◌-◌, ◌+◌, ◌^◌, ◌≤◌, ◌&&◌, ◌==◌, ℕ, List, ◌++◌, drop}
+use Rattle.pieces.proofs.Common.{text_in, chars, append_assoc, offset, units, Utf8, IsPast, end_before_feed, all_before, within_chunks, prefix-more, whole_at, arith, sym, ap, subst, ◌∙◌, cond, ◌≡◌, ◌-◌, ◌+◌, ◌^◌, ◌≤◌, ◌&&◌, ◌==◌, ℕ, List, ◌++◌, drop}
 use Rattle.pieces.proofs.LocatedPiece.{sum-before, position-reached, position-not_before}
 use Rattle.pieces.proofs.Offsets.{offset-end}
 use Rattle.pieces.proofs.PastTheEnd.{offset-within}

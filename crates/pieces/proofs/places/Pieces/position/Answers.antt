@@ -1,5 +1,4 @@
-use Rattle.pieces.proofs.Common.{text_in, chars, append-nil, position, units, begins_with, Utf8, prefix_of, all_before, within_chunks, prefix-more, whole_at}
-use Rattle.std.proofs.Common.{arith, refl, sym, ap, subst, ◌∙◌, ◌≡◌, ◌-◌, ◌+◌, ◌^◌, ◌<◌, ◌≤◌, ℕ, List, ◌++◌, [], length, take, drop}
+use Rattle.pieces.proofs.Common.{text_in, chars, append-nil, position, units, begins_with, Utf8, prefix_of, all_before, within_chunks, prefix-more, whole_at, arith, refl, sym, ap, subst, ◌∙◌, ◌≡◌, ◌-◌, ◌+◌, ◌^◌, ◌<◌, ◌≤◌, ℕ, List, ◌++◌, [], length, take, drop}
 use Rattle.pieces.proofs.LocatedPiece.{sum-before, offset-reached, offset-not_before, cut-text, cut-length, cut-next}
 use Rattle.pieces.proofs.PastTheEnd.{position-past}
 use Rattle.pieces.proofs.Summed.{text_before, few_before}

@@ -1,5 +1,4 @@
-use Rattle.std.proofs.Common.{◌≡◌, ◌<◌, [], All, AllPairs, Contains, length, slice_index_or, sym, subst, ap, ◌∙◌}
-use Rattle.productions.proofs.Common.{get_or_default, left_of}
+use Rattle.productions.proofs.Common.{◌≡◌, ◌<◌, [], All, AllPairs, Contains, length, slice_index_or, sym, subst, ap, ◌∙◌, get_or_default, left_of}
 use Rattle.productions.proofs.augmented.AugmentedGrammar.of_left.Goals as goal
 use Rattle.productions.proofs.augmented.AugmentedGrammar.of_left.Goals.{After-items}
 

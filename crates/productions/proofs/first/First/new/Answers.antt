@@ -1,5 +1,4 @@
-use Rattle.std.proofs.Common.{rules, ◌≡◌, ◌∷◌, ◌++◌, [], Some, length, subst, sym}
-use Rattle.productions.proofs.Common.{AreExact}
+use Rattle.productions.proofs.Common.{rules, ◌≡◌, ◌∷◌, ◌++◌, [], Some, length, subst, sym, AreExact}
 use Rattle.productions.proofs.EachMore.{each_more}
 use Rattle.productions.proofs.Fixpoint.{exact_nullable, exact_begin}
 use Rattle.productions.proofs.first.First.new.Goals as goal
@@ -23,10 +22,4 @@ returns c =
     let g = c.args.productions.now.grammar in
     let i = c.loop-a.invariant in
     let v = c.in_ok-nullable.ensures in
-    record {
-      wide = v.marks;
-      rows = search rules;
-      each_wide = i.wide;
-      are_nullable = exact_nullable g c.in_ok-blank.blank c.in_ok-nullable.nullable v.held v.closed;
-      begin = i.exact;
-    }
+    record { wide = v.marks; rows = search rules; each_wide = i.wide; are_nullable = exact_nullable g c.in_ok-blank.blank c.in_ok-nullable.nullable v.held v.closed; begin = i.exact }

@@ -1,5 +1,4 @@
-use Rattle.std.proofs.Common.{arith, ap, ◌∙◌, ◌≤◌, length}
-use Rattle.runs.proofs.Common.{most, flattened}
+use Rattle.runs.proofs.Common.{arith, ap, ◌∙◌, ◌≤◌, length, most, flattened}
 use Rattle.runs.proofs.Totals.{total-items}
 use Rattle.runs.proofs.list.Runs.len.Goals as goal
 

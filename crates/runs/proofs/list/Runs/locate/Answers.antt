@@ -1,5 +1,4 @@
-use Rattle.std.proofs.Common.{arith, sym, ap, ◌∙◌, ◌≡◌, ◌+◌, length, Some, None, slice_get, option_copied}
-use Rattle.runs.proofs.Common.{past_chunk, within_chunks}
+use Rattle.runs.proofs.Common.{arith, sym, ap, ◌∙◌, ◌≡◌, ◌+◌, length, Some, None, slice_get, option_copied, past_chunk, within_chunks}
 use Rattle.runs.proofs.FirstReached.{IsFound, located_none, located_in}
 use Rattle.runs.proofs.list.Runs.locate.Goals as goal
 

@@ -1,5 +1,4 @@
-use Rattle.std.proofs.Common.{arith, ap, refl, length-append, ◌∙◌, ◌≡◌, ◌≤◌, ◌+◌, ◌-◌, ◌++◌, ℕ, List, length, take, drop}
-use Rattle.runs.proofs.Common.{length-take, length-drop, filled_between, in_order, flattened}
+use Rattle.runs.proofs.Common.{arith, ap, refl, length-append, ◌∙◌, ◌≡◌, ◌≤◌, ◌+◌, ◌-◌, ◌++◌, ℕ, List, length, take, drop, length-take, length-drop, filled_between, in_order, flattened}
 use Rattle.runs.proofs.list.Runs.replace.Goals as goal
 
 -- how many items a change leaves

@@ -1,5 +1,4 @@
-use Rattle.std.proofs.Common.{arith, ap, ◌∙◌, length}
-use Rattle.runs.proofs.Common.{flattened}
+use Rattle.runs.proofs.Common.{arith, ap, ◌∙◌, length, flattened}
 use Rattle.runs.proofs.list.Runs.seq.Goals as goal
 
 pub returns-clause-items : goal.returns-clause-items

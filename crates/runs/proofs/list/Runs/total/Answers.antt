@@ -1,5 +1,4 @@
-use Rattle.std.proofs.Common.{ap, ◌∙◌}
-use Rattle.runs.proofs.Common.{total}
+use Rattle.runs.proofs.Common.{ap, ◌∙◌, total}
 use Rattle.runs.proofs.Totals.{total-sum}
 use Rattle.runs.proofs.list.Runs.total.Goals as goal
 

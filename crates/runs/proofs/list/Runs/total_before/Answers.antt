@@ -1,5 +1,4 @@
-use Rattle.std.proofs.Common.{ap, sym, ◌∙◌, take}
-use Rattle.runs.proofs.Common.{total, total-append, flattened}
+use Rattle.runs.proofs.Common.{ap, sym, ◌∙◌, take, total, total-append, flattened}
 use Rattle.runs.proofs.list.Runs.total_before.Goals as goal
 
 pub returns : goal.returns

@@ -1,5 +1,4 @@
-use Rattle.std.proofs.Common.{arith, ap, ◌∙◌, ◌≡◌, ◌++◌, ℕ, List, length, take, drop}
-use Rattle.seqtree.specs.Chunks.{joined, AreFew, IsGap}
+use Rattle.seqtree.proofs.Common.{arith, ap, ◌∙◌, ◌≡◌, ◌++◌, ℕ, List, length, take, drop, joined, AreFew, IsGap}
 use Rattle.seqtree.proofs.Gaps.{gap_of, few_left, left}
 use Rattle.seqtree.proofs.chunks.Chunks.replace.Goals as goal
 

@@ -1,5 +1,4 @@
-use Rattle.std.proofs.Common.{◌≡◌, ◌∷◌, length, ap, sym, ◌∙◌, arith}
-use Rattle.seqtree.specs.Parts.{items_ahead}
+use Rattle.seqtree.proofs.Common.{◌≡◌, ◌∷◌, length, ap, sym, ◌∙◌, arith, items_ahead}
 use Rattle.seqtree.proofs.Parts.{items_ahead-push, AreParts-below, AreParts-top}
 use Rattle.seqtree.proofs.iter.IterIterator.next.Goals as goal
 

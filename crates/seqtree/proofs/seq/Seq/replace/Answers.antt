@@ -1,5 +1,4 @@
-use Rattle.std.proofs.Common.{arith}
-use Rattle.std.proofs.lemmas.Grind.{common_steps}
+use Rattle.seqtree.proofs.Common.{arith, common_steps}
 use Rattle.seqtree.proofs.seq.Seq.replace.Goals as goal
 
 pub returns-clause-list : goal.returns-clause-list

@@ -1,5 +1,4 @@
-use Rattle.std.proofs.Common.{sym, ap, subst, ◌∙◌, option_map}
-use Rattle.server.proofs.Common.{get, entry_view, IsEntryOf}
+use Rattle.server.proofs.Common.{sym, ap, subst, ◌∙◌, option_map, get, entry_view, IsEntryOf}
 use Rattle.server.proofs.MapEntries.{get_held, map_twice, found_current}
 use Rattle.server.proofs.documents.Documents.get.Goals as goal
 

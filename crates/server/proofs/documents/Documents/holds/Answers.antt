@@ -1,5 +1,4 @@
-use Rattle.std.proofs.Common.{sym, ap, ◌∙◌, is_some}
-use Rattle.server.proofs.Common.{get, entry_view, entry_at}
+use Rattle.server.proofs.Common.{sym, ap, ◌∙◌, is_some, get, entry_view, entry_at}
 use Rattle.server.proofs.MapEntries.{get_held, is_some_map}
 use Rattle.server.proofs.documents.Documents.holds.Goals as goal
 

@@ -1,5 +1,4 @@
-use Rattle.std.proofs.Common.{ap, sym, ◌∙◌, None, is_some}
-use Rattle.server.proofs.Common.{get, remove, btree_map_updates_text, entry_view, entry_at}
+use Rattle.server.proofs.Common.{ap, sym, ◌∙◌, None, is_some, get, remove, btree_map_updates_text, entry_view, entry_at}
 use Rattle.server.proofs.MapEntries.{get_held, is_some_map, remove_held, remove_current}
 use Rattle.server.proofs.documents.Documents.remove.Goals as goal
 

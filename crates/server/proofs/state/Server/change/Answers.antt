@@ -1,5 +1,4 @@
-use Rattle.std.proofs.Common.{◌≡◌, ℤ, w32, map, ap, sym, subst, ◌∙◌, string_bytes, Some, IfSome, option_map}
-use Rattle.server.proofs.Common.{LanguageData, to_z-of_z, get, insert, change_view, is_open, is_lost, Becomes, entry_view, state_view, IfOk-weaker, open_document}
+use Rattle.server.proofs.Common.{◌≡◌, ℤ, w32, map, ap, sym, subst, ◌∙◌, string_bytes, Some, IfSome, option_map, LanguageData, to_z-of_z, get, insert, change_view, is_open, is_lost, Becomes, entry_view, state_view, IfOk-weaker, open_document}
 use Rattle.rpc.specs.Loss.TheVariants.{Memory}
 use Rattle.server.proofs.Holding.{changes_open, state_same}
 use Rattle.server.proofs.state.Server.change.Goals as goal

@@ -1,5 +1,4 @@
-use Rattle.std.proofs.Common.{List, ℕ, string_bytes, ap, sym, subst}
-use Rattle.server.proofs.Common.{LanguageData, insert, entry_view, sent, State, Holds, state_view, IfOk-weaker}
+use Rattle.server.proofs.Common.{List, ℕ, string_bytes, ap, sym, subst, LanguageData, insert, entry_view, sent, State, Holds, state_view, IfOk-weaker}
 use Rattle.server.proofs.Holding.{state_of, state_same}
 use Rattle.server.proofs.state.Server.hold.Goals as goal
 

@@ -1,5 +1,4 @@
-use Rattle.std.proofs.Common.{arith}
-use Rattle.std.proofs.lemmas.Grind.{common_steps}
+use Rattle.tables.proofs.Common.{arith, common_steps}
 use Rattle.tables.proofs.packed.Entries.at.Goals as goal
 
 pub returns-in_ok-get-in-Narrow : goal.returns-in_ok-get-in-Narrow

@@ -1,5 +1,4 @@
-use Rattle.std.proofs.Common.{ap, subst, sym, ◌∙◌}
-use Rattle.tables.proofs.Common.{IsSound, Shape, IfOk-weaker, IfErr-weaker, HasNoConflict, IsLr1, HasOneTreeEach, no_conflict_lr1, one_tree_of_used, IsRight, RefutesLr1}
+use Rattle.tables.proofs.Common.{ap, subst, sym, ◌∙◌, IsSound, Shape, IfOk-weaker, IfErr-weaker, HasNoConflict, IsLr1, HasOneTreeEach, no_conflict_lr1, one_tree_of_used, IsRight, RefutesLr1}
 use Rattle.tables.proofs.Finishing.{refutes}
 use Rattle.tables.proofs.tables.Tables.build.Goals as goal
 

@@ -1,5 +1,4 @@
-use Rattle.std.proofs.Common.{arith, refl, ap, sym, subst, ◌∙◌, ◌≡◌, ◌<◌, ◌++◌, ℕ, List, [], ◌∷◌, Option, None, Some, length, true, slice_get, is_some}
-use Rattle.text.proofs.Common.{text_in, chars, false≢true, append-nil, none-some}
+use Rattle.text.proofs.Common.{arith, refl, ap, sym, subst, ◌∙◌, ◌≡◌, ◌<◌, ◌++◌, ℕ, List, [], ◌∷◌, Option, None, Some, length, true, slice_get, is_some, text_in, chars, false≢true, append-nil, none-some}
 use Rattle.text.proofs.characters.Chars.peek.Goals as goal
 
 prefix_get : (xs ys : List ℕ) (c : ℕ) → Some c ≡ slice_get xs 0 → Some c ≡ slice_get (xs ++ ys) 0

@@ -1,5 +1,4 @@
-use Rattle.std.proofs.Common.{arith, ap, ◌∙◌}
-use Rattle.text.proofs.Common.{text_in, units-bytes}
+use Rattle.text.proofs.Common.{arith, ap, ◌∙◌, text_in, units-bytes}
 use Rattle.text.proofs.Sizes.{size, bytes_le}
 use Rattle.text.proofs.document.Text.bytes.Goals as goal
 

@@ -1,5 +1,4 @@
-use Rattle.std.proofs.Common.{arith}
-use Rattle.std.proofs.lemmas.Grind.{common_steps}
+use Rattle.text.proofs.Common.{arith, common_steps}
 use Rattle.text.proofs.document.Text.characters.Goals as goal
 
 pub loop-piece-preserved : goal.loop-piece-preserved

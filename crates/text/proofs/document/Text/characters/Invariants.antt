@@ -1,5 +1,4 @@
-use Rattle.std.proofs.Common.{◌≡◌, ◌++◌}
-use Rattle.text.proofs.Common.{text_in}
+use Rattle.text.proofs.Common.{◌≡◌, ◌++◌, text_in}
 use Rattle.text.proofs.document.Text.characters.Given as goal
 
 abbrev pub invariant-loop-piece : goal.invariant-loop-piece

@@ -1,5 +1,4 @@
-use Rattle.std.proofs.Common.{arith, ap, sym, subst, ◌∙◌, ◌++◌}
-use Rattle.text.proofs.Common.{chars, append-nil, IsText, units, Utf8, IsText-chars, text_in, units-chars}
+use Rattle.text.proofs.Common.{arith, ap, sym, subst, ◌∙◌, ◌++◌, chars, append-nil, IsText, units, Utf8, IsText-chars, text_in, units-chars}
 use Rattle.text.proofs.Sizes.{size, size-chars}
 use Rattle.text.proofs.document.Text.open.Goals as goal
 

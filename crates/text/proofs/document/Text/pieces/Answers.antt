@@ -1,5 +1,4 @@
-use Rattle.std.proofs.Common.{arith, refl, ap, ◌∙◌, ◌≡◌, ◌++◌, ℕ, List, [], ◌∷◌}
-use Rattle.text.proofs.Common.{concat, text_in, units-bytes}
+use Rattle.text.proofs.Common.{arith, refl, ap, ◌∙◌, ◌≡◌, ◌++◌, ℕ, List, [], ◌∷◌, concat, text_in, units-bytes}
 use Rattle.text.proofs.Sizes.{size}
 use Rattle.text.proofs.document.Text.pieces.Goals as goal
 

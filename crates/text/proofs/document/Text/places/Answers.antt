@@ -1,5 +1,4 @@
-use Rattle.std.proofs.Common.{arith, ap, length}
-use Rattle.text.proofs.Common.{text_in}
+use Rattle.text.proofs.Common.{arith, ap, length, text_in}
 use Rattle.text.proofs.Sizes.{length_le}
 use Rattle.text.proofs.document.Text.places.Goals as goal
 

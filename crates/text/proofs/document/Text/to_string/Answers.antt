@@ -1,5 +1,4 @@
-use Rattle.std.proofs.Common.{ap, sym, ◌∙◌, ◌≡◌, ◌++◌, List, ℕ, string_bytes, encode_utf8_all, append_assoc}
-use Rattle.text.proofs.Common.{text_in, encodes-append, encodes-chars}
+use Rattle.text.proofs.Common.{ap, sym, ◌∙◌, ◌≡◌, ◌++◌, List, ℕ, string_bytes, encode_utf8_all, append_assoc, text_in, encodes-append, encodes-chars}
 use Rattle.text.proofs.document.Text.to_string.Goals as goal
 
 pub loop-piece-preserved : goal.loop-piece-preserved

@@ -1,5 +1,4 @@
-use Rattle.std.proofs.Common.{arith, ap, sym, ◌∙◌, ◌≡◌, ◌∷◌, ℕ, List, length, length-drop, drop, rules}
-use Rattle.text.proofs.Common.{text_in}
+use Rattle.text.proofs.Common.{arith, ap, sym, ◌∙◌, ◌≡◌, ◌∷◌, ℕ, List, length, length-drop, drop, rules, text_in}
 use Rattle.text.proofs.NextPosition.{position-line, position-character, at_place}
 use Rattle.text.proofs.places.Places.advance.Goals as goal
 
@@ -36,12 +35,7 @@ loop-preserved c =
     let next : drop offset text ≡ c.in-Some.c ∷ rest = sym placed.ahead ∙ c.in-Some.ensures.steps in
     let at = at_place text rest offset c.in-Some.c next in
     record {
-      placed = record {
-        within = omega (arith, at.0);
-        few = placed.few;
-        ahead = at.2;
-        is = c.position_after-self-inside.ensures text offset rest next c.peek.ensures placed.is;
-      };
+      placed = record { within = omega (arith, at.0); few = placed.few; ahead = at.2; is = c.position_after-self-inside.ensures text offset rest next c.peek.ensures placed.is };
       text = c.loop.invariant.text;
       unit = c.loop.invariant.unit;
       far = omega (arith, c.loop.invariant.far);

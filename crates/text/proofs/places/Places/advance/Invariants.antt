@@ -1,5 +1,4 @@
-use Rattle.std.proofs.Common.{◌≡◌, ◌+◌}
-use Rattle.text.proofs.Common.{text_in, IsPlaced}
+use Rattle.text.proofs.Common.{◌≡◌, ◌+◌, text_in, IsPlaced}
 use Rattle.text.proofs.places.Places.advance.Given as goal
 
 abbrev pub invariant-loop : goal.invariant-loop

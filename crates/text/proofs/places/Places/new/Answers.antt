@@ -1,5 +1,4 @@
-use Rattle.std.proofs.Common.{arith, ◌++◌, ◌∙◌}
-use Rattle.text.proofs.Common.{text_in, chars-nil}
+use Rattle.text.proofs.Common.{arith, ◌++◌, ◌∙◌, text_in, chars-nil}
 use Rattle.text.proofs.NextPosition.{position-start}
 use Rattle.text.proofs.places.Places.new.Goals as goal
 

@@ -1,5 +1,4 @@
-use Rattle.std.proofs.Common.{[], ◌∷◌, ◌≡◌, ◌++◌, ap, sym, ◌∙◌, subst, refl, rules}
-use Rattle.trees.proofs.Common.{Cell, tree, IsStore, Node, NodeId}
+use Rattle.trees.proofs.Common.{[], ◌∷◌, ◌≡◌, ◌++◌, ap, sym, ◌∙◌, subst, refl, rules, Cell, tree, IsStore, Node, NodeId}
 use Rattle.trees.proofs.Cells.{cell_made, cells-push, grown-new, grown-tree}
 use Rattle.trees.proofs.store.Store.branch.Goals as goal
 

@@ -1,5 +1,4 @@
-use Rattle.std.proofs.lemmas.Grind.{common_steps}
-use Rattle.std.proofs.Common.{refl, arith}
+use Rattle.trees.proofs.Common.{refl}
 use Rattle.trees.proofs.Cells.{below-at}
 use Rattle.trees.proofs.store.Store.counts.Goals as goal
 
@@ -8,6 +7,3 @@ tokens_of-requires c = below-at _ c.args.children.now c.loop-child.child-index _
 
 pub size_of-requires : goal.size_of-requires
 size_of-requires c = below-at _ c.args.children.now c.loop-child.child-index _ _ c.requires c.loop-child-test.true refl
-
-pub loop-child-preserved : goal.loop-child-preserved
-loop-child-preserved c = grind (arith, common_steps)

@@ -1,5 +1,4 @@
-use Rattle.std.proofs.Common.{[], ap, sym, ◌∙◌, arith}
-use Rattle.trees.proofs.Common.{StampedBranch, trees_from, forest_of, common_steps}
+use Rattle.trees.proofs.Common.{[], ap, sym, ◌∙◌, arith, StampedBranch, trees_from, forest_of, common_steps}
 use Rattle.trees.proofs.Cells.{seen_at}
 use Rattle.trees.proofs.store.Store.production.Goals as goal
 

@@ -1,5 +1,4 @@
-use Rattle.std.proofs.Common.{ap, sym, ◌∙◌, min}
-use Rattle.trees.proofs.Common.{branches, plain, most}
+use Rattle.trees.proofs.Common.{ap, sym, ◌∙◌, min, branches, plain, most}
 use Rattle.trees.proofs.Cells.{seen_at}
 use Rattle.trees.proofs.store.Store.size.Goals as goal
 

@@ -1,5 +1,4 @@
-use Rattle.std.proofs.Common.{[], ap, sym, ◌∙◌, min, length}
-use Rattle.trees.proofs.Common.{yield, plain, most, trees_from, forest_of}
+use Rattle.trees.proofs.Common.{[], ap, sym, ◌∙◌, min, length, yield, plain, most, trees_from, forest_of}
 use Rattle.trees.proofs.Cells.{seen_at}
 use Rattle.trees.proofs.store.Store.tokens.Goals as goal
 

@@ -1,5 +1,4 @@
-use Rattle.std.proofs.Common.{[], ◌≡◌, take, sym, ap, ◌∙◌, subst, rules}
-use Rattle.trees.proofs.Common.{IsStore, tree}
+use Rattle.trees.proofs.Common.{[], ◌≡◌, take, sym, ap, ◌∙◌, subst, rules, IsStore, tree}
 use Rattle.trees.proofs.Cells.{cells-take, take-tree}
 use Rattle.trees.proofs.store.Store.truncate.Goals as goal
 
