@@ -48,13 +48,7 @@ module _ (s : Splice) where
   pub prepared_same : (old : List Tree) (ks : List Kind) → s.from ≡ s.to → length s.kinds ≡ 0 → IsPrepared s old (old ++ leaves ks)
   prepared_same old ks same none = record {
     from_old = λ lefts p us w nonempty. ⊎_elim
-        (λ a. record {
-          lefts = lefts;
-          stood = a;
-          not_empty = nonempty;
-          untouched = λ t. ⊎_elim (λ k. omega (arith, same, k.3, k.4)) (λ k. k.1 none) t;
-          moved = unmoved same none (place_of lefts);
-        })
+        (λ a. record { lefts = lefts; stood = a; not_empty = nonempty; untouched = λ t. ⊎_elim (λ k. omega (arith, same, k.3, k.4)) (λ k. k.1 none) t; moved = unmoved same none (place_of lefts) })
         (λ b. absurd (no_branch ks b.1))
         (stands_split old (leaves ks) w);
     all_old = λ place p us kept. (kept.lefts, stands_in_prefix (leaves ks) kept.stood, ⊎_elim (λ a. sym a.1) (λ b. omega (arith, b.1, same, none)) kept.moved);

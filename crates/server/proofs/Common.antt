@@ -17,7 +17,7 @@ pub use Rattle.std.specs.declared.cmp.Ordering.TheVariants.{Less}
 pub use Rattle.std.proofs.Math.Nat.{min-eq_left}
 pub use Rattle.std.proofs.lemmas.Bool.{true_from_ne_false}
 pub use Rattle.std.proofs.lemmas.Cmp.{nat_list_cmp_total}
-pub use Rattle.std.proofs.lemmas.Grind.{common_steps, flat_map-append}
+pub use Rattle.std.proofs.lemmas.Grind.{flat_map-append}
 pub use Rattle.std.proofs.lemmas.Int.{to_z-of_z}
 pub use Rattle.std.proofs.lemmas.List.{append-nil, length-map, length-take, map-append, take-append-drop, take_all, take_more}
 pub use Rattle.std.proofs.lemmas.Map.Text.{btree_map_text_same, btree_map_updates_text, is_eq-slice_cmp}

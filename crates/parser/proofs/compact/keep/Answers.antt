@@ -10,9 +10,8 @@ rename-requires c = omega (arith, as_many c.args.store.now c.compact.new.self c.
 
 pub returns-clause-trees : goal.returns-clause-trees
 returns-clause-trees c =
-    let cs = c.args.children.now in
     ap (all_trees c.compact.new.self) c.rename.ensures
-    ∙ renamed_trees c.args.store.now c.compact.new.self cs c.compact.new.roots (c.in_ok-compact.ensures.trees ∙ ap (λ ids. all_trees c.args.store.now (nodes ids)) c.requires.ids)
+    ∙ renamed_trees c.args.store.now c.compact.new.self c.args.children.now c.compact.new.roots (c.in_ok-compact.ensures.trees ∙ ap (λ ids. all_trees c.args.store.now (nodes ids)) c.requires.ids)
 
 pub returns-clause-below : goal.returns-clause-below
 returns-clause-below c =

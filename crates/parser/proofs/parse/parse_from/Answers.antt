@@ -1,4 +1,4 @@
-use Rattle.parser.proofs.Common.{sym, subst, ap, arith, ◌∙◌, [], ◌∷◌, length, input_of, all_trees, all_branches, plain_of, IsStop, verdict_of, CameFrom, SoFar, common_steps}
+use Rattle.parser.proofs.Common.{sym, subst, ap, arith, ◌∙◌, [], ◌∷◌, length, input_of, all_trees, all_branches, plain_of, IsStop, verdict_of, CameFrom, SoFar}
 use Rattle.parser.proofs.WhereBranchesComeFrom.{came_begins}
 use Rattle.parser.proofs.Running.{begun}
 use Rattle.parser.proofs.parse.parse_from.Goals as goal
@@ -24,11 +24,10 @@ pub run-requires-clause-came : goal.run-requires-clause-came
 run-requires-clause-came g c =
     let cells = c.args.store.now in
     let n = c.args.number in
-    let m = c.in_ok-machine.machine in
     let made = c.in_ok-machine.ensures in
     let input = c.args.input in
     let first = came_begins n cells input in
-    subst (λ stack. CameFrom (all_trees cells input) (length cells) n cells stack m.read input) (sym made.stack)
+    subst (λ stack. CameFrom (all_trees cells input) (length cells) n cells stack c.in_ok-machine.machine.read input) (sym made.stack)
     (subst (λ r. CameFrom (all_trees cells input) (length cells) n cells [] r input) (sym made.read) first)
 
 pub returns-clause-came : goal.returns-clause-came
@@ -53,15 +52,11 @@ returns-clause-parse g c =
     let new = c.run.new.store in
     let stack = c.run.new.self.stack.items in
     let made = returns-clause-run g c in
-    let stops = c.in_ok-halt.ensures.stops.1 in
     record {
       stop = subst (λ ks. IsStop t ks new (verdict_of c.in_ok-halt.halt stack) stack c.state-state.result) c.new-reader.ensures
-          (subst (IsStop t _ new (verdict_of c.in_ok-halt.halt stack) stack) (sym c.state-state.ensures) stops);
+          (subst (IsStop t _ new (verdict_of c.in_ok-halt.halt stack) stack) (sym c.state-state.ensures) c.in_ok-halt.ensures.stops.1);
       branches = c.in_ok-branches.ensures ∙ ap (λ l. all_branches (plain_of new l)) c.deref.ensures.value;
       built = omega (arith, c.len.ensures.is, c.len-before.ensures.is, made.so_far.count, made.so_far.made);
       older = made.so_far.up_to;
       countable = omega (arith, c.in_ok-halt.ensures.countable, ap length c.new-reader.ensures);
     }
-
-pub returns-in_err-machine-clause-grown : goal.returns-in_err-machine-clause-grown
-returns-in_err-machine-clause-grown g c = grind (arith, common_steps)

@@ -1,4 +1,4 @@
-use Rattle.parser.proofs.Common.{zero, ◌≡◌, ◌≢◌, ℕ, ◌+◌, ◌-◌, ◌<◌, suc, ◌≤◌, ◌∷◌, length-append, List, [], ◌++◌, length, take, drop, map, sym, ap, ◌∙◌, subst, arith, rules, length-drop, append-nil, take_all, all_kinds, yield, plain, IsPrepared, place_of, AreBelow, Cell, all_trees, tree, MoveFrom, plain_of, input_of, plain_splice, Child, Token, common_steps}
+use Rattle.parser.proofs.Common.{zero, ◌≡◌, ◌≢◌, ℕ, ◌+◌, ◌-◌, ◌<◌, suc, ◌≤◌, ◌∷◌, length-append, List, [], ◌++◌, length, take, drop, map, sym, ap, ◌∙◌, subst, arith, rules, length-drop, append-nil, take_all, all_kinds, yield, plain, IsPrepared, place_of, AreBelow, Cell, all_trees, tree, MoveFrom, plain_of, input_of, plain_splice, Child, Token}
 use Rattle.parser.proofs.Reductions.{below-drop}
 use Rattle.parser.proofs.Cuts.{cut_below, cut_kinds}
 use Rattle.parser.proofs.Prepared.{prepared_same, unmoved}
@@ -108,6 +108,3 @@ returns c =
       older = λ number h. replaced_older cells s c.requires.ordered number r h;
       moved = replaced_moved cells s c.requires.ordered r;
     }
-
-pub returns-then-is_empty-clause-input : goal.returns-then-is_empty-clause-input
-returns-then-is_empty-clause-input c = grind (arith, common_steps)

@@ -1,4 +1,4 @@
-use Rattle.server.proofs.Common.{◌≡◌, ◌↔◌, ◌∙◌, ◌+◌, ap, sym, subst, List, map, take, ℕ, true, false, Option, Some, Err, Ok, Result, chars, changed, Encoding, last_edit, open_document, IsNext, LastEdit, OpenDocument, fits, DocFault, Memory, change_view, is_lost, Becomes, IsLastAfter, after, ends_there, goes_on, last_goes_on, may_lose, true_from_ne_false, arith, common_steps}
+use Rattle.server.proofs.Common.{◌≡◌, ◌↔◌, ◌∙◌, ◌+◌, ap, sym, subst, List, map, take, ℕ, true, false, Option, Some, Err, Ok, Result, chars, changed, Encoding, last_edit, open_document, IsNext, LastEdit, OpenDocument, fits, DocFault, Memory, change_view, is_lost, Becomes, IsLastAfter, after, ends_there, goes_on, last_goes_on, may_lose, true_from_ne_false}
 use Rattle.docs.specs.declared.doc.DocFault.TheVariants.{TooLarge}
 use Rattle.rpc.specs.Loss.TheVariants as loss
 use Rattle.server.proofs.Refusals.{either_fault}
@@ -53,6 +53,3 @@ loop-change-preserved c =
       edits = goes_on c.args.changes.now c.loop-change.change-index change c.loop-change-test.true c.change-item.is c.args.language.now.file
           (open_document c.args.doc) doc.text c.loop-change.invariant.edits fit ∙ ap (λ t. Some t) (sym text);
     }
-
-pub returns-clause-becomes : goal.returns-clause-becomes
-returns-clause-becomes c = grind (arith, common_steps)

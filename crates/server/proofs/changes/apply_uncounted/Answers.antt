@@ -1,4 +1,4 @@
-use Rattle.server.proofs.Common.{◌≡◌, ◌∙◌, ◌+◌, ap, sym, subst, List, [], map, take, length, min, true, false, arith, Some, Err, min-eq_left, append-nil, length-map, length-take, take_all, chars, open_document, pending_text, changed, fits, Memory, TextChange, change_view, Encoding, is_lost, Becomes, after, all_changes, ends_there, goes_on, last_goes_on, may_lose, lost_on_the_way, common_steps}
+use Rattle.server.proofs.Common.{◌≡◌, ◌∙◌, ◌+◌, ap, sym, subst, List, [], map, take, length, min, true, false, arith, Some, Err, min-eq_left, append-nil, length-map, length-take, take_all, chars, open_document, pending_text, changed, fits, Memory, TextChange, change_view, Encoding, is_lost, Becomes, after, all_changes, ends_there, goes_on, last_goes_on, may_lose, lost_on_the_way}
 use Rattle.docs.specs.declared.doc.DocFault.TheVariants.{TooLarge}
 use Rattle.rpc.specs.Loss.TheVariants as loss
 use Rattle.server.proofs.Refusals.{either_fault}
@@ -68,6 +68,3 @@ returns-in-Err-finish-clause-lost c v =
     let lost = lost_on_the_way file v d before [] (pending_text c.loop-change.pending) c.loop-change.invariant.edits
     (λ none. absurd (c.in-Err-finish.ensures.refused (c.loop-change.invariant.first (first none)))) in
     subst (λ l. Becomes file v d l (is_lost loss.Memory)) (append-nil before ∙ ap (map change_view) whole) lost
-
-pub returns-in-Ok-finish-clause-after : goal.returns-in-Ok-finish-clause-after
-returns-in-Ok-finish-clause-after c = grind (arith, common_steps)

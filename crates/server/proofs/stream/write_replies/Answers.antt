@@ -43,13 +43,11 @@ returns-in-Err-clause-prefix g c =
 pub loop-reply-preserved : goal.loop-reply-preserved
 loop-reply-preserved g c =
     let out_bytes = g.W.Output.contents in
-    let replies = c.args.replies.now in
-    let i = c.loop-reply.reply-index in
     let reply = c.reply-item.result in
     let old = out_bytes c.args.output.now in
     let mid = out_bytes c.loop-reply.output in
     let new = out_bytes c.write_frame.new.output in
     let bytes : c.deref.result.now ≡ compact_text (reply_data (reply_view reply)) = c.deref.ensures.value ∙ c.in_ok-content.ensures in
     let one : Appends mid new (frame (compact_text (reply_data (reply_view reply)))) = subst (λ l. Appends mid new (frame l)) bytes c.in-Ok.ensures.bytes in
-    let all = one_more replies i reply c.loop-reply-test.true c.reply-item.is in
+    let all = one_more c.args.replies.now c.loop-reply.reply-index reply c.loop-reply-test.true c.reply-item.is in
     record { written = subst (Appends old new) (sym all) (appends_then old mid new _ _ c.loop-reply.invariant.written one); works = c.in-Ok.ensures.cause }

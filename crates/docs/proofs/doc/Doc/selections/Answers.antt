@@ -22,10 +22,9 @@ pub returns : goal.returns
 returns c = λ language current.
     let d = c.args.self.now in
     let positions = c.args.positions.now in
-    let i = c.loop-position.position-index in
     let has = has_the_nodes c.stack_has_the_nodes_of_the_document.ensures language d current in
     let reading = reading_of d (trees_of_roots d.store d.parse.stack) in
     let found : List (List Range) = map (λ s. s.items) c.loop-position.selections.items in
     let all : AreSelections d.unit language.file d.text reading positions found = subst (λ (ps : List Position). AreSelections d.unit language.file d.text reading ps found)
-    (take_all i positions c.loop-position-test.false) (c.loop-position.invariant language current) in
+    (take_all c.loop-position.position-index positions c.loop-position-test.false) (c.loop-position.invariant language current) in
     selections_read d.unit language d positions found current has all

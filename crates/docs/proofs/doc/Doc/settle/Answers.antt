@@ -9,7 +9,6 @@ rescan-requires c =
 
 pub returns-clause-settled : goal.returns-clause-settled
 returns-clause-settled c =
-    let l = c.args.language.now in
     let e = c.args.edit in
     let old = c.args.self.now in
     let was = c.requires.current in
@@ -21,7 +20,7 @@ returns-clause-settled c =
       number = changed.number;
       scanned = after.scanned;
       built = λ older. subst (λ s. Built s (plain_of old.store old.parse.stack) 0 (plain_of next.store next.parse.stack) next.parse.built) after.splice (changed.built older);
-      stamps = stamped_so l.file e _ old next after.splice after.kept changed.stamps changed.older changed.anew e refl;
+      stamps = stamped_so c.args.language.now.file e _ old next after.splice after.kept changed.stamps changed.older changed.anew e refl;
       current = record {
         tokens = after.tokens;
         parse = subst (λ t. IsParseOf t (significant_kinds next.tokens.items) next.store next.parse) c.tables-tables.ensures.is changed.parse;

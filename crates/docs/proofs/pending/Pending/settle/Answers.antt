@@ -16,9 +16,8 @@ returns-clause-settled c =
 
 pub returns-clause-pending : goal.returns-clause-pending
 returns-clause-pending c =
-    let new = c.settle.new.self in
     record {
-      was = new.text;
+      was = c.settle.new.self.text;
       short = omega (arith, c.len-length.ensures.count, c.len-length.ensures.few, ap length c.in_ok-settle.ensures.same.2);
       current = c.in_ok-settle.ensures.settled.current;
       leads = refl;

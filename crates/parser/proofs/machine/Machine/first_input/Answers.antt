@@ -101,11 +101,10 @@ pub returns-in-Token-clause-offer : goal.returns-in-Token-clause-offer
 returns-in-Token-clause-offer g c =
     let kinds = c.args.kinds.now in
     let read = c.args.self.now.read in
-    let cells = c.args.store.now in
     let rest = c.in-Some.ensures.0 in
     let k = c.in-Token.kind in
     let token : c.edge.input ≡ Token k ∷ rest = c.in-Some.ensures.1 ∙ ap (λ x. x ∷ rest) c.in-Token.is in
-    let inp = subst (λ l. IsInput c.args.tables.now.grammar cells l kinds read) token c.edge.invariant.input in
+    let inp = subst (λ l. IsInput c.args.tables.now.grammar c.args.store.now l kinds read) token c.edge.invariant.input in
     (look_first kinds read k _ inp.covers, subst BeginsWithNoNode (sym token) tt)
 
 pub edge-init : goal.edge-init

@@ -1,4 +1,4 @@
-use Rattle.parser.proofs.Common.{◌≡◌, ◌+◌, ◌-◌, List, [], ◌∷◌, ◌++◌, length, length-take, take, drop, get_or, sym, ap, ◌∙◌, subst, rules, arith, length-append, Option, Kind, Symbol, Nonterminal, Grammar, Tree, HaveRoots, append_cancel_right, length-roots, Reduces, goto_there, Handle, handle, reduces_roots, AreBelow, Node, IsStateOf, plain_of, HasStates, HasMade, common_steps}
+use Rattle.parser.proofs.Common.{◌≡◌, ◌+◌, ◌-◌, List, [], ◌∷◌, ◌++◌, length, length-take, take, drop, get_or, sym, ap, ◌∙◌, subst, rules, arith, length-append, Option, Kind, Symbol, Nonterminal, Grammar, Tree, HaveRoots, append_cancel_right, length-roots, Reduces, goto_there, Handle, handle, reduces_roots, AreBelow, Node, IsStateOf, plain_of, HasStates, HasMade}
 use Rattle.parser.proofs.Reductions.{parts, reduced, states_after, state_under, plain-length, below-take, below-drop}
 use Rattle.parser.proofs.machine.Machine.reduce.Goals.{After-len, In_ok-push}
 use Rattle.parser.proofs.machine.Machine.reduce.Goals as goal
@@ -90,15 +90,3 @@ returns-clause-states c =
     let goes = (c.in-Some.ensures k.d (subst (IsStateOf t k.d) (sym state) there)).1 in
     let after : c.push.new.self.states.items ≡ take (m + 1) states ++ (c.in-Some.next ∷ []) = search rules in
     subst (HasStates t new) (sym after) (states_after t stack states c.requires.states called.1 called.2 left sized.0 k m at new c.in-Some.next roots goes)
-
-pub returns-in_err-push-clause-grown : goal.returns-in_err-push-clause-grown
-returns-in_err-push-clause-grown c = grind (arith, common_steps)
-
-pub returns-clause-grown : goal.returns-clause-grown
-returns-clause-grown c = grind (arith, common_steps)
-
-pub returns-clause-made : goal.returns-clause-made
-returns-clause-made c = grind (arith, common_steps)
-
-pub returns-in_err-id-clause-grown : goal.returns-in_err-id-clause-grown
-returns-in_err-id-clause-grown c = grind (arith, common_steps)

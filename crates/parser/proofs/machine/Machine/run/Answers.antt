@@ -1,4 +1,4 @@
-use Rattle.parser.proofs.Common.{◌≡◌, ◌+◌, ℕ, List, length, slice_get, Some, refl, sym, ap, ◌∙◌, subst, arith, slice_get_within, HasMove, Shift, Reduce, Accept, Kind, Tree, yield, plain_tree, Stamped, Cell, all_trees, tree, Child, Node, Reduces, Sets, IsStateOf, Offers, IsOffer, FirstInput, OffersTree, OffersNext, input_of, IsInput, plain_of, HasStates, IsStoppedAt, verdict_of, CameFrom, ComeFrom, IsEdge, SoFar, AreOlder, Rule as Token, plain_move as plain, common_steps}
+use Rattle.parser.proofs.Common.{◌≡◌, ◌+◌, ℕ, List, length, slice_get, Some, refl, sym, ap, ◌∙◌, subst, arith, slice_get_within, HasMove, Shift, Reduce, Accept, Kind, Tree, yield, plain_tree, Stamped, Cell, all_trees, tree, Child, Node, Reduces, Sets, IsStateOf, Offers, IsOffer, FirstInput, OffersTree, OffersNext, input_of, IsInput, plain_of, HasStates, IsStoppedAt, verdict_of, CameFrom, ComeFrom, IsEdge, SoFar, AreOlder, Rule as Token, plain_move as plain}
 use Rattle.parser.proofs.WhereBranchesComeFrom.{came_reduced, came_shifted, came_taken, come_older, come_on, prefix_came, prefix_from, skipped_came, skipped_left}
 use Rattle.parser.proofs.Inputs.{taken}
 use Rattle.parser.proofs.Moves.{Reached, top_stands}
@@ -66,7 +66,6 @@ edge-requires-clause-input g c = subst (λ kinds. IsInput c.args.tables.now.gram
 
 pub moves-preserved-in-Tree : goal.moves-preserved-in-Tree
 moves-preserved-in-Tree g c =
-    let t = c.args.tables.now in
     let kinds = c.args.kinds.now in
     let cells = c.moves.store in
     let m = c.moves.self in
@@ -77,7 +76,7 @@ moves-preserved-in-Tree g c =
     let offer = edge.offer (OffersTree id c.in-Tree.next) c.in-Tree.is in
     let rest = c.take.new.self in
     let now_is = taken c.take.result now rest offer.0.0 (Node id) c.take.ensures offer.0.1 in
-    let one = taken_on t (input_of c.args.store.now c.args.input kinds 0) kinds (length c.args.store.now) c.args.number cells m.stack.items m.states.items m.read
+    let one = taken_on c.args.tables.now (input_of c.args.store.now c.args.input kinds 0) kinds (length c.args.store.now) c.args.number cells m.stack.items m.states.items m.read
     c.moves.input h.so_far now rest id c.in-Tree.next now_is edge.input edge.offers edge.older offer.1 in
     let came = came_taken (all_trees c.args.store.now c.args.input) (length c.args.store.now) c.args.number cells m.stack.items m.read c.moves.input h.came now rest id now_is edge.came edge.older in
     let n = length (yield (plain_tree (tree cells (Node id)))) in
@@ -135,7 +134,6 @@ moves-preserved g c =
     let cells = c.moves.store in
     let m = c.moves.self in
     let h = c.moves.invariant in
-    let now = c.edge.new.input in
     let begun = edge_on g at.In_ok-edge in
     let full = begun.full in
     let skips = begun.skips in
@@ -152,7 +150,7 @@ moves-preserved g c =
     let reduces = subst (λ l. Reduces t.grammar (plain_of cells m.stack.items) l (plain_of new m'.stack.items)) offer.0 (done.reduced c.in-Next.look states.symbols states.roots called) in
     let closed = c.in_ok-close-in-Some-Reduce.ensures full begun.opened begun.len begun.first in
     let one = reduced_on t (input_of c.args.store.now c.args.input kinds 0) kinds (length c.args.store.now) c.args.number cells m.stack.items m.states.items m.read
-    c.moves.input h.so_far now offer.1 edge.offers p new m'.stack.items m'.states.items done.made reduces done.states full on.0 on.1
+    c.moves.input h.so_far c.edge.new.input offer.1 edge.offers p new m'.stack.items m'.states.items done.made reduces done.states full on.0 on.1
     (come_older c.args.number 0 (all_trees cells c.moves.input) (all_trees cells full) (skipped_came cells c.moves.input full skips) h.so_far.older) in
     let input = all_trees c.args.store.now c.args.input in
     let came = came_reduced input (length c.args.store.now) c.args.number cells m.stack.items m.read c.moves.input h.came p new m'.stack.items done.made h.so_far.below full on.0.below
@@ -190,21 +188,3 @@ returns-in-None-clause-stops g c =
       | else-self-count w ↦ subst (λ halt. IsStoppedAt t kinds cells (verdict_of halt m.stack.items) m.stack.items m.states.items) (sym w.result-is)
           (at_end t c.requires.accepted kinds cells m.stack.items m.states.items m.read here stuck (omega (arith, w.if-self-count.false, c.len-count.ensures)))
     ]
-
-pub returns-in_err-reduce-in-Some-Reduce-clause-grown : goal.returns-in_err-reduce-in-Some-Reduce-clause-grown
-returns-in_err-reduce-in-Some-Reduce-clause-grown g c = grind (arith, common_steps)
-
-pub moves-init : goal.moves-init
-moves-init g c = grind (arith, common_steps)
-
-pub moves-smaller-in-Tree : goal.moves-smaller-in-Tree
-moves-smaller-in-Tree g c = grind (arith, common_steps)
-
-pub reduce-requires-clause-called : goal.reduce-requires-clause-called
-reduce-requires-clause-called g c = grind (arith, common_steps)
-
-pub overflow_add-self : goal.overflow_add-self
-overflow_add-self g c = grind (arith, common_steps)
-
-pub moves-smaller : goal.moves-smaller
-moves-smaller g c = grind (arith, common_steps)

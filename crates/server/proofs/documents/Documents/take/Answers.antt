@@ -52,11 +52,10 @@ returns-clause-is c =
 pub returns-clause-current : goal.returns-clause-current
 returns-clause-current c = elim c.match-get_mut.branch [
   | in-Some w ↦
-      let uri = c.args.uri.now in
       let found = ap option_copied_mut (sym w.in-Some.is) ∙ c.get_mut.ensures.value in
       subst (λ (r : Option (Entry)). IfSome r (IsEntryOf c.args.self.now.language)) (sym w.result-is)
       (subst (λ e. IsEntryOf c.args.self.now.language e) (sym w.replace.ensures.value)
-      (subst (λ h. IsEntryOf h.language w.in-Some.held.now) c.self.view_is (c.self.invariant uri w.in-Some.held.now (sym found))))
+      (subst (λ h. IsEntryOf h.language w.in-Some.held.now) c.self.view_is (c.self.invariant c.args.uri.now w.in-Some.held.now (sym found))))
   | in-None w ↦ subst (λ (r : Option (Entry)). IfSome r (IsEntryOf c.args.self.now.language)) (sym w.result-is) tt
 ]
 
