@@ -159,7 +159,7 @@ class Answers:
 
     @contextlib.contextmanager
     def hurry(self) -> Iterator[None]:
-        """No tokens of a whole text are read meanwhile, so it must not wait for them."""
+        """While the block runs no tokens of a whole text are read, so nothing in it may wait for them."""
         self.hurried += 1
         self.calm.clear()
         try:

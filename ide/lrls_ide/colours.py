@@ -71,7 +71,7 @@ class Painter:
         return paint
 
     def painted_rows(self, rows: list[Row], text: Text) -> "array[int]":
-        """The colours of these tokens."""
+        """The colours of these tokens, for which an editor waits: at once, and not by lines that are kept, as `painted` has them."""
         numbers: list[int] = []
         line = character = 0
         for name, first, start, last, end in rows:
