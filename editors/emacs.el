@@ -283,18 +283,18 @@ Emacs 28 needs a second to make lists of all tokens of a megabyte, and only thos
           (flymake-start))))))
 
 (defun lrls--check (grammar done)
-  "Have a server without input read the file GRAMMAR, and call DONE with what is wrong with it, or nil.
-`lrls check' would build the program where it isn't built."
+  "Have a server without input read the file GRAMMAR, and call DONE with what is wrong with it, or nil."
   (make-process
    :name "lrls check" :buffer (generate-new-buffer " *lrls check*") :connection-type 'pipe :noquery t
    :command (list "sh" "-c" "exec \"$0\" serve \"$1\" 2>&1 < /dev/null" lrls-program grammar)
    :sentinel (lambda (process _event)
                (unless (process-live-p process)
                  (let ((text (with-current-buffer (process-buffer process) (buffer-string)))
-                       (is-faulty (= (process-exit-status process) lrls--faulty-grammar)))
+                       (is-faulty (= (process-exit-status process) lrls--faulty-grammar))
+                       (has-failed (/= (process-exit-status process) 0)))
                    (kill-buffer (process-buffer process))
                    (lrls--show-fault grammar (and is-faulty (lrls--message text)))
-                   (funcall done (and (not (equal text "")) (lrls--message text))))))))
+                   (funcall done (and has-failed (not (equal text "")) (lrls--message text))))))))
 
 (defun lrls--grammar-saved ()
   "Have the languages whose grammar was saved go by it.  Where it has a fault, their servers go on with the grammar before."

@@ -891,7 +891,7 @@ local function restart_servers(buffer)
   end
 end
 
--- Looks at the grammar of a language: a server without input reads it, and ends. (`check` would build a program that isn't built.)
+-- Looks at the grammar of a language: a server without input reads it, and ends.
 -- `done` gets the fault, or nil.
 local function check_grammar(language, done)
   local errors = vim.fn.tempname()
@@ -901,7 +901,7 @@ local function check_grammar(language, done)
     on_exit = function(job, code)
       local text = take_errors(errors)
       if checks[language.name] == job then
-        local message = text ~= "" and message_of(text) or nil
+        local message = code ~= 0 and text ~= "" and message_of(text) or nil
         show_grammar_fault(language, code == faulty_grammar and message or nil)
         done(message)
       end

@@ -33,7 +33,7 @@ PLACE = re.compile(r"\d+:\d+-\d+:\d+: unexpected ")
 ITEM = re.compile(r"after:|item: ")
 PATH = re.compile(r"(?:docs|editors|grammars|tests)/[\w./]*")
 CODE = re.compile(r"`([^`]+)`")
-COMMANDS = ("lrls ", "printf ", "echo ", "tests/sizes ")
+COMMANDS = ("lrls ", "printf ", "echo ")
 
 
 class Block:
@@ -101,7 +101,14 @@ def streams(lines):
 def command_of(program, top):
     """A script that does as the script `lrls` does where the program is built."""
     show = shlex.join([sys.executable, os.path.join(top, "script", "show"), program])
-    return f'#!/bin/sh\nif [ "$1" = show ]; then\n    shift\n    exec {show} "$@"\nfi\nexec {shlex.quote(program)} "$@"\n'
+    sizes = shlex.join([sys.executable, os.path.join(top, "tests", "sizes")])
+    return f"""#!/bin/sh
+case $1 in
+show) shift && exec {show} "$@" ;;
+sizes) shift && exec {sizes} "$@" ;;
+*) exec {shlex.quote(program)} "$@" ;;
+esac
+"""
 
 
 class Page:

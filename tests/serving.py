@@ -7,9 +7,9 @@ import threading
 import time
 
 TOP = os.path.dirname(os.path.dirname(os.path.abspath(__file__)))
-# The program that is run, and what builds it where it isn't built. LRLS_PROGRAM is another program, which is run as it is.
+# The program that is run: the proved one, or the one that LRLS_PROGRAM names, which is run as it is.
 OTHER = os.environ.get("LRLS_PROGRAM")
-START = os.path.abspath(OTHER) if OTHER else os.path.join(TOP, "lrls")
+START = os.path.join(TOP, "lrls")
 PROGRAM = os.path.abspath(OTHER) if OTHER else os.path.join(TOP, "crates", "lrls", "out", "lrls")
 # After so many seconds without its end, or without a reply, a program has failed.
 PATIENCE = int(os.environ.get("LRLS_PATIENCE", "60"))
@@ -17,8 +17,9 @@ SUMS = os.path.join(TOP, "grammars", "g0.lr")
 
 
 def build():
-    """Builds the program where it isn't built. From then on the sessions run it without looking whether it is."""
-    subprocess.run([START, "check", SUMS], stdout=subprocess.DEVNULL, check=True)
+    """Proves and builds the program where that isn't done. From then on the sessions run it without looking whether it is."""
+    if not OTHER:
+        subprocess.run([START, "prove"], check=True)
 
 
 def position(place):

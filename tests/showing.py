@@ -47,6 +47,7 @@ NODES = """Sum
     NUM  0:2-0:3  "2"
 """
 NO_TREE = "There is no tree. These are the tokens; > marks the one at the fault:\n"
+AT_THE_END = "There is no tree. These are the tokens; the fault is behind the last one:\n"
 LISTS = """File > Part*
   Part > WIDE  0:0-0:4  "\U0001f600\U0001f600"
   Part > skip > NAME  0:5-0:6  "a"
@@ -74,7 +75,7 @@ ROWS = [
         f'{NO_TREE}  NUM  0:0-0:1  "1"\n  WS  0:1-1:0  "\\r\\n"\n> invalid  1:0-1:2  "\U0001f600"\n  NUM  1:2-1:3  "2"\n',
         1,
     ),
-    (["--nodes"], "g0", "1+", f'0:2-0:2: unexpected end; expected NUM, LP\n{NO_TREE}  NUM  0:0-0:1  "1"\n  PLUS  0:1-0:2  "+"\n', 1),
+    (["--nodes"], "g0", "1+", f'0:2-0:2: unexpected end; expected NUM, LP\n{AT_THE_END}  NUM  0:0-0:1  "1"\n  PLUS  0:1-0:2  "+"\n', 1),
 ]
 
 # What is refused: the options, the grammar, the bytes of the text, standard error, and the status.

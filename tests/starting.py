@@ -1,434 +1,503 @@
-"""What the script `lrls` does around the program: links to it, words that it answers without a build, what it says of a missing
-`rt`, how it builds, `--unproved`, `install` and `package`.
+"""What the script `lrls` does to make the program and to run it: words that it answers without a
+build, what it says of a missing `rt`, the two ways to make a program, what it does for an editor,
+and what `--version` says.
 
-A copy of the script runs in a folder of its own, whose path has a blank. `rt` is a stand-in that prints what this file says, so
-that nothing is proved or built here. PATH has links to the script's other commands alone.
-"""
+Nothing is proved or compiled here: tests/checkouts.py has the stand-ins. tests/proving tries the
+kit itself. """
 
+import json
 import os
+import re
 import shutil
-import stat
+import signal
 import subprocess
+import time
 
-from cases import read
-
-TOP = os.path.dirname(os.path.dirname(os.path.abspath(__file__)))
-COMMANDS = (
-    "awk basename cat chmod cp cut date dirname du find getconf gzip head ln mkdir mktemp mv readlink rm sed sh sleep sort tail touch tr wc"
-).split()
+from checkouts import FAILS, RT, VERSION, Checkout, write
 
 NO_RT = (
-    "lrls: building the program needs `rt`, the command of Rattle's kit, and no folder of PATH has it\n"
-    "lrls: add the kit's folder bin to PATH; {top}/README.md names the kit's version, under \"What you need\"\n"
+    "lrls: making the program needs `rt`, the command of Rattle's kit, and no folder of PATH has it\n"
+    'lrls: add the kit\'s folder bin to PATH; {top}/README.md names the kit, under "What you need"\n'
 )
-UNBUILT = (
-    "lrls: the program isn't built yet; each of these proves and builds it first, which took 12 to 21 minutes on four processors\n"
-    "lrls: for an answer in a minute or two, without a proof: lrls --unproved check GRAMMAR, or parse GRAMMAR TEXT\n"
-    "lrls: for all that the script does: lrls --help\n"
+HINT = "lrls: for all that the script does: lrls --help\n"
+NO_GRAMMAR = "lrls: line 1: G1 first line\n"
+QUICKLY = (
+    "lrls: lrls isn't built yet; making it without repeating its proofs takes about two minutes\n"
 )
-UNPROVED = "lrls: nothing is proved yet: building without a proof takes a minute or two, a large grammar some minutes\n"
-UNPROVED_USAGE = "lrls: usage: lrls --unproved check GRAMMAR | parse GRAMMAR TEXT\n"
-NO_SERVER = (
-    "lrls: --unproved can't serve, since the unproved program reads all of its input before it begins; use check or parse\n"
+UNPROVED = (
+    "the proofs of this commit weren't repeated on this machine: `lrls prove` repeats them and makes the faster program, which "
+    "counts from then on"
 )
-NOT_FROM_AN_EDITOR = (
-    "lrls: the program isn't built, or is older than its sources; it isn't built from within an editor\n"
-    "lrls: run this in a terminal first: {top}/lrls check GRAMMAR\n"
-)
-BUILDING = (
-    "lrls: not built yet: proving and building 1 crates; the first time took 12 to 21 minutes on four processors\n"
-    "lrls: for an answer in a minute or two, without a proof: lrls --unproved check GRAMMAR, or parse GRAMMAR TEXT\n"
-)
-
-# Prints its words and the files that it was handed, and what `rt try` adds on standard error.
-TRYING = """#!/bin/sh
-echo "$PWD"
-for word; do
-    case $word in
-    *=/*) printf '%s is ' "${word%%=*}"; cat "${word#*=}" ;;
-    *) echo "$word" ;;
-    esac
-done
-echo "interpreter: no-answer: a call" >&2
-echo "lrls: line 4: a fault" >&2
-echo "after: checked: X" >&2
-echo "checked: ended status=2" >&2
-echo "run=ended status=2 runners=1 proved=no" >&2
-exit 2
-"""
-NO_ANSWER = """#!/bin/sh
-echo "checked: no-answer: the program did not end" >&2
-echo "run=no-answer" >&2
-exit 6
-"""
-# Makes a program that prints its words: by `rt all test` in place, where no folder can be made beside the kit; and where one can, by
-# `rt ci` in a copy, of which the program prints the files too.
-IN_PLACE = """#!/bin/sh
-case "$*" in
-doc) echo "$TMPDIR/kit/START-HERE.md" ;;
-"all test --jobs "*)
-    echo "== lrls"
-    mkdir -p out
-    printf '#!/bin/sh\\necho "ran $*"\\nexit 7\\n' > out/lrls
-    chmod +x out/lrls
-    ;;
-esac
-"""
-IN_A_COPY = """#!/bin/sh
-case "$*" in
-doc) echo "$TMPDIR/kit/START-HERE.md" ;;
-ci)
-    echo "rt: lrls is kept: an earlier run on this machine proved the same files"
-    files="$(cat crates.txt HANDLES) $(find crates -type f)"
-    mkdir -p crates/lrls/out
-    printf '#!/bin/sh\\necho "%s"\\n' "$files" > crates/lrls/out/lrls
-    chmod +x crates/lrls/out/lrls
-    ;;
-esac
-"""
-FAILS = """#!/bin/sh
-case "$*" in
-doc) echo "$TMPDIR/kit/START-HERE.md" ;;
-ci) printf '== other\\nis proved\\n== lrls\\nan error\\nrt: lrls NOT PROVED\\n0 passed, 1 failed\\n' ;;
-esac
-"""
-DONE = "lrls: done with lrls, 1 of 1, after 0 min\n"
-NO_PYTHON = "lrls: `lrls show` needs Python 3.8 or later, and no folder of PATH has the command python3\n"
-INSTALL_USAGE = "lrls: usage: lrls install FOLDER | install --prefix FOLDER\n"
-
-# What a kit, Debian's tools and git say, as far as the script asks them. `dpkg-deb` makes a list of the package's files and its
-# control file; there is no symbol to strip.
-STAND_INS = {
-    "dpkg": '#!/bin/sh\n[ "$*" = --print-architecture ] && echo riscv64\n',
-    "strip": "#!/bin/sh\n",
-    "dpkg-deb": """#!/bin/sh
-while [ $# -gt 2 ]; do shift; done
-{ (cd "$1" && { find . ! -type d; find . -type d ! -perm 755; } | sort); cat "$1/DEBIAN/control"; } > "$2"
-""",
-    "git": """#!/bin/sh
-case "$*" in
-*rev-parse*) echo 0123456789ab ;;
-*status*) cat "$TMPDIR/changed" ;;
-*log*) echo "A <a@b.c>" ;;
-esac
-""",
-}
-# What an installation of a checkout has, with a folder `ide`.
-LAID_OUT = """bin/lrls bin/lrls-ide lib/lrls/lrls share/doc/lrls/CHANGELOG.md share/doc/lrls/GRAMMARS.md share/doc/lrls/IDE.md
-share/doc/lrls/PERFORMANCE.md share/doc/lrls/PROTOCOL.md share/doc/lrls/README.md share/lrls/editors/README.md share/lrls/editors/emacs.el
-share/lrls/editors/neovim.lua share/lrls/grammars/g0.lr share/lrls/help share/lrls/ide/lrls-ide share/lrls/ide/lrls-notes
-share/lrls/ide/settings.json share/lrls/lrls share/lrls/show share/lrls/version share/man/man1/lrls-ide.1
-share/man/man1/lrls-playground.1 share/man/man1/lrls.1 share/man/man5/lrgrammar.5""".split()
+MADE = f"{QUICKLY}lrls: made in N s; {UNPROVED}\n"
+WITHOUT_A_DOOR = "lrls: this kit can't make a program without a proof, so it is proved first\n"
+PROVING = "lrls: proving and building the 3 crates of lrls; docs/GATE.md says how long that took elsewhere\n"
+DONE = "lrls: done with a, 1 of 3, after 0 min\n"
+UNMARKED = "lrls: lrls was built in a way that was not noted, and not proved\n"
+QUICK = ("quick, ran check x\n", "", 7)
 
 
-class Checkout:
-    """A folder with a copy of the script and a crate without code, where nothing is built."""
-
-    def __init__(self, folder):
-        self.top = os.path.join(os.path.realpath(folder), "a checkout")
-        self.bin = os.path.join(folder, "bin")
-        os.makedirs(os.path.join(self.top, "crates", "lrls", "src"))
-        os.mkdir(self.bin)
-        for name in ("lrls", "README.md"):
-            shutil.copy(os.path.join(TOP, name), self.top)
-        for name in ("script", "man", "docs", "editors"):
-            shutil.copytree(os.path.join(TOP, name), os.path.join(self.top, name))
-        os.mkdir(os.path.join(self.top, "grammars"))
-        self.placed("grammars/g0.lr", "GRAMMAR\n")
-        self.placed("crates.txt", "lrls:\ntests: lrls\n")
-        self.placed("HANDLES", "none\n")
-        self.placed("CHANGELOG.md", "# Changes\n\n## Unreleased\n")
-        for name in ("x", "y", "--x"):
-            self.placed(name, "")
-        for command in COMMANDS:
-            os.symlink(shutil.which(command), os.path.join(self.bin, command))
-
-    def placed(self, name, text):
-        path = os.path.join(self.top, name)
-        with open(path, "w", encoding="utf-8") as file:
-            file.write(text)
-        return path
-
-    def stand_in(self, text, name="rt"):
-        """Makes this the command of this name, or has no such command."""
-        path = os.path.join(self.bin, name)
-        if os.path.exists(path):
-            os.remove(path)
-        if text:
-            with open(path, "w", encoding="utf-8") as file:
-                file.write(text)
-            os.chmod(path, 0o755)
-
-    def run(self, *words, script=None, cwd=None, more=()):
-        """What the script prints on both streams, and its status."""
-        ran = subprocess.run(
-            [script or os.path.join(self.top, "lrls"), *words],
-            cwd=cwd or self.top,
-            env={"PATH": self.bin, "TMPDIR": self.top, **dict(more)},
-            input=b"",
-            capture_output=True,
-            timeout=60,
-            check=False,
-            # Whose files nobody else may read
-            preexec_fn=lambda: os.umask(0o077),
-        )
-        return ran.stdout.decode(), ran.stderr.decode(), ran.returncode
+def timeless(ran):
+    """What was printed, with N for the number of seconds."""
+    out, err, status = ran
+    return out, re.sub(r"made in \d+ s;", "made in N s;", err), status
 
 
-def without_rt(cases, checkout, refused, usage):
+def refuses_words(cases, checkout, refused, usage):
+    """Words and files are refused before anything is built."""
     checkout.stand_in(None)
     for words in refused:
         if words not in (["--help"], ["-h"], ["--version"]):
-            cases.check(f"unbuilt, words {words}", ("", usage + UNBUILT, 2), checkout.run(*words))
-    missing = ("", NO_RT.format(top=checkout.top), 1)
-    for words in [["check", "x"], ["check", "--", "--x"], ["parse", "x", "y"], ["--unproved", "check", "x"], ["install", "."]]:
-        awaited = missing if words[0] != "install" else ("", "lrls: cannot install into .: the script `lrls` lies there\n", 1)
-        cases.check(f"no rt, words {words}", awaited, checkout.run(*words))
-    # Links, one to the other, from a folder elsewhere.
-    links = os.path.join(checkout.top, "links")
-    os.mkdir(links)
-    os.symlink("../lrls", os.path.join(links, "one"))
-    os.symlink("links/one", os.path.join(checkout.top, "two"))
-    os.symlink(os.path.join(checkout.top, "two"), os.path.join(checkout.bin, "three"))
-    ran = checkout.run("check", os.path.join(checkout.top, "x"), script=os.path.join(checkout.bin, "three"), cwd="/")
-    cases.check("links to the script", missing, ran)
-    unreadable(cases, checkout)
-    cases.check("an editor starts it", ("", NOT_FROM_AN_EDITOR.format(top=checkout.top), 1), checkout.run("serve", "x"))
-
-
-def unreadable(cases, checkout):
-    """Files that can't be read are told before anything is built, and so are words that need no program."""
+            cases.check(f"unbuilt, words {words}", ("", usage + HINT, 2), checkout.run(*words))
     for words, path in [
         (["check", "nothing"], "nothing"),
-        (["check", "links"], "links"),
+        (["check", "script"], "script"),
         (["serve", "nothing"], "nothing"),
         (["parse", "nothing", "x"], "nothing"),
         (["parse", "x", "--", "--nothing"], "--nothing"),
+        (["show", "--tokens", "x", "nothing"], "nothing"),
+        (["show", "nothing", "--nodes", "x"], "nothing"),
     ]:
-        cases.check(f"unbuilt, words {words}", ("", f"lrls: cannot read {path}\n", 1), checkout.run(*words))
-    for words in [["show", "x", "y"], ["show"]]:
-        cases.check(f"no python3, words {words}", ("", NO_PYTHON, 1), checkout.run(*words))
-    checkout.stand_in("#!/bin/sh\n", "python3")
-    for words, path in [(["show", "--tokens", "x", "nothing"], "nothing"), (["show", "nothing", "--nodes", "x"], "nothing")]:
-        cases.check(f"unbuilt, words {words}", ("", f"lrls: cannot read {path}\n", 1), checkout.run(*words))
-    checkout.stand_in(None, "python3")
+        cases.check(
+            f"unbuilt, words {words}", ("", f"lrls: cannot read {path}\n", 1), checkout.run(*words)
+        )
+    for command in ("build", "prove"):
+        cases.check(
+            f"{command}, words", ("", f"usage: lrls {command}\n", 2), checkout.run(command, "x")
+        )
+
+
+def refuses_other_files(cases, checkout):
+    """A file that begins as no grammar does is refused before anything is built, as the program
+    would refuse it."""
+    missing = ("", NO_RT.format(top=checkout.top), 1)
+    for text, awaited in [
+        ("", NO_GRAMMAR),
+        ("what is this\n", NO_GRAMMAR),
+        ("lrgrammar 1 \n", NO_GRAMMAR),
+        (" lrgrammar 1\n", NO_GRAMMAR),
+        ("lrgrammar 3\n", NO_GRAMMAR),
+        ("lrgrammar 1", missing[1]),
+        ("lrgrammar 2\r\n", missing[1]),
+        # Of these the program says that there are too many bytes.
+        ("x" * 65_537, missing[1]),
+    ]:
+        checkout.placed("file", text)
+        cases.check(
+            f"a file that begins {text[:14]!r}",
+            ("", awaited, 2 if awaited == NO_GRAMMAR else 1),
+            checkout.run("check", "file"),
+        )
+    cases.check("no file at all", ("", NO_GRAMMAR, 2), checkout.run("check", "/dev/null"))
+    cases.check("a text may be any", missing, checkout.run("parse", "x", "HANDLES"))
+
+
+def without_rt(cases, checkout):
+    """What is said where the kit is missing, also by links to the script, one to the other, from a
+    folder elsewhere."""
+    missing = ("", NO_RT.format(top=checkout.top), 1)
+    for words in [
+        ["check", "x"],
+        ["check", "--", "--x"],
+        ["parse", "x", "y"],
+        ["show", "x", "y"],
+        ["serve", "x"],
+        ["build"],
+        ["prove"],
+    ]:
+        cases.check(f"no rt, words {words}", missing, checkout.run(*words))
+    links = checkout.path("links")
+    os.mkdir(links)
+    os.symlink("../lrls", os.path.join(links, "one"))
+    os.symlink("links/one", checkout.path("two"))
+    os.symlink(checkout.path("two"), os.path.join(checkout.bin, "three"))
+    ran = checkout.run(
+        "check", checkout.path("x"), script=os.path.join(checkout.bin, "three"), cwd="/"
+    )
+    cases.check("links to the script", missing, ran)
     for word in ("--help", "-h"):
         out, err, status = checkout.run(word)
-        cases.check(f"unbuilt, words {[word]}", (True, True, "", 0), ("show [--tokens" in out, "package [FOLDER]" in out, err, status))
+        cases.check(
+            f"unbuilt, words {[word]}",
+            (True, True, "", 0),
+            ("show [--tokens" in out, "package [FOLDER]" in out, err, status),
+        )
 
 
-def versions(cases, checkout):
-    """What `--version` says: the version, the commit where there is one, and the kit that README.md names."""
-    with open(os.path.join(TOP, "README.md"), encoding="utf-8") as file:
-        kit = file.read().split("Proved with: `")[1].split("`")[0]
-    cases.check("no commit", (f"lrls 1.0.0\ncommit unknown\nproved with {kit}\n", "", 0), checkout.run("--version"))
-    checkout.stand_in(STAND_INS["git"], "git")
-    checkout.placed("CHANGELOG.md", "# Changes\n\n## Unreleased\n\n## 2.3.4\n\n## 2.3.3\n")
-    for changed, more in [("", ""), (" M lrls\n", ", with changes since")]:
-        checkout.placed("changed", changed)
-        awaited = (f"lrls 2.3.4\ncommit 0123456789ab{more}\nproved with {kit}\n", "", 0)
-        cases.check(f"the version after {changed!r}", awaited, checkout.run("--version"))
-
-
-def unproved(cases, checkout):
-    checkout.stand_in(TRYING)
-    grammar = checkout.placed("my grammar", "GRAMMAR\n")
-    checkout.placed("-text", "TEXT\n")
-    where = os.path.join(checkout.top, "crates", "lrls")
-    given = f"{where}\ntry\n--seconds\n1800\n--data\nthe.grammar is GRAMMAR\n"
-    err = f"{UNPROVED}lrls: line 4: a fault\nafter: checked: X\n"
-    checked = (f"{given}--\ncheck\nthe.grammar\n", err, 2)
-    cases.check("unproved check", checked, checkout.run("--unproved", "check", grammar, cwd="/"))
-    parsed = (f"{given}--data\nthe.text is TEXT\n--\nparse\nthe.grammar\nthe.text\n", err, 2)
-    cases.check("unproved parse", parsed, checkout.run("--unproved", "parse", "my grammar", "--", "-text"))
-    unreadable = ("", "lrls: cannot read nothing\n", 1)
-    cases.check("unproved, no such file", unreadable, checkout.run("--unproved", "parse", grammar, "nothing"))
-    cases.check("unproved server", ("", NO_SERVER, 2), checkout.run("--unproved", "serve", grammar))
-    for words in [[], ["check"], ["parse", grammar], ["what", grammar], ["show", grammar, grammar], ["check", "--tokens", grammar]]:
-        cases.check(f"unproved, words {words}", ("", UNPROVED_USAGE, 2), checkout.run("--unproved", *words))
-    checkout.stand_in(NO_ANSWER)
-    said = "checked: no-answer: the program did not end\nrun=no-answer\n"
-    ended = ("", f"{UNPROVED}{said}lrls: no answer of the unproved program; the lines above are `rt`'s\n", 1)
-    cases.check("unproved, no answer", ended, checkout.run("--unproved", "check", grammar))
-    left = [name for name in os.listdir(checkout.top) if name.startswith("tmp.")]
-    cases.check("folders left behind", [], left)
-
-
-def builds(cases, checkout):
-    """Each way to build, and what is said where nothing was built."""
-    program = os.path.join(checkout.top, "crates", "lrls", "out", "lrls")
-    checkout.placed("crates/lrls/src/main.rt", "")
-    for folder in ("crates/lrls/must-fail", "kit"):
-        os.mkdir(os.path.join(checkout.top, folder))
-    checkout.placed("crates/lrls/must-fail/an.edit", "")
-    checkout.placed("kit/START-HERE.md", "")
-    checkout.stand_in(FAILS)
-    failed = f"{BUILDING}lrls: done with other, 1 of 1, after 0 min\nlrls: done with lrls, 2 of 1, after 0 min\n"
-    said = "== lrls\nan error\nrt: lrls NOT PROVED\n0 passed, 1 failed\nlrls: not built; what is proved is kept for the next time\n"
-    cases.check("a crate isn't proved", ("", failed + said, 1), checkout.run("check", "x"))
-    checkout.stand_in(IN_A_COPY)
-    copied = "lrls:\nnone crates/lrls/src/main.rt\n"
-    cases.check("builds in a copy", (copied, f"{BUILDING}{DONE}lrls: built\n", 0), checkout.run("check", "x"))
-    os.remove(program)
-    os.rmdir(os.path.join(checkout.top, "rattle-kept"))
-    checkout.placed("rattle-kept", "no folder\n")
-    checkout.stand_in(IN_PLACE)
-    cases.check("builds in place", ("ran check x\n", f"{BUILDING}{DONE}lrls: built\n", 7), checkout.run("check", "x"))
-    os.remove(program)
-    left = [name for name in os.listdir(checkout.top) if name.startswith("tmp.")]
-    cases.check("folders left behind by a build", [], left)
-
-
-def installs(cases, checkout):
-    into = os.path.join(checkout.top, "some where")
-    usage = ("", INSTALL_USAGE, 2)
-    for words in [[], [into, into]]:
-        cases.check(f"install, words {words}", usage, checkout.run("install", *words))
-    missing = ("", f"lrls: cannot install into {into}: it is no folder; make it first\n", 1)
-    cases.check("install, no folder", missing, checkout.run("install", into))
-    own = ("", "lrls: cannot install into .: the script `lrls` lies there\n", 1)
-    cases.check("install over the script", own, checkout.run("install", "."))
-    os.mkdir(into)
-    os.symlink("../lrls", os.path.join(into, "lrls"))
-    checkout.stand_in(IN_PLACE)
-    said = f"{BUILDING}{DONE}lrls: built\nlrls: installed as {into}/lrls\n"
-    cases.check("install builds", ("", said, 0), checkout.run("install", "some where"))
-    installed = os.path.join(into, "lrls")
-    cases.check("what was a link is the program", True, stat.S_ISREG(os.lstat(installed).st_mode))
-    cases.check("the copy", ("ran check x\n", "", 7), checkout.run("check", "x", script=installed))
-    # What is built runs without `rt`, and what words mean is then the program's to say.
+def builds_quickly(cases, checkout):
+    """The program is made without a proof, once, and anew where a file that it is made of is
+    newer."""
+    checkout.kit()
+    before = files_below(os.path.join(checkout.temporary, "kit"))
+    cases.check(
+        "the first time", ("quick, ran check x\n", MADE, 7), timeless(checkout.run("check", "x"))
+    )
+    called = checkout.called()
+    compiled = [line for line in called if line.startswith("clang")]
+    trial, program = "clang -O1 -c module.bc -o module.o", "clang -O1 -c module.bc -o module.o"
+    cases.check("how it is compiled", [trial, program], compiled)
+    cases.check("where it is lowered", True, f"try in {checkout.path('crates', 'lrls')}" in called)
+    cases.check(
+        "the kit is as it was", before, files_below(os.path.join(checkout.temporary, "kit"))
+    )
+    cases.check("nothing is left", [], checkout.left())
     checkout.stand_in(None)
-    for words in [["serve", "x"], ["help"], []]:
-        cases.check(f"built, words {words}", (f"ran {' '.join(words)}\n", "", 7), checkout.run(*words))
-    cases.check("install again", ("", f"lrls: installed as {into}/lrls\n", 0), checkout.run("install", into))
+    for words in [["check", "x"], ["serve", "x"], ["help"], []]:
+        cases.check(
+            f"built, words {words}",
+            (f"quick, ran {' '.join(words)}\n", "", 7),
+            checkout.run(*words),
+        )
+    cases.check(
+        "built, words ['build']", ("", f"lrls: lrls was {NOTED}\n", 0), checkout.run("build")
+    )
+    missing = ("", NO_RT.format(top=checkout.top), 1)
+    for name, awaited in [
+        ("crates/tests/src/lib.rt", QUICK),
+        ("crates/a/out/a", QUICK),
+        ("crates/lrls/must-fail/an.edit", QUICK),
+        ("crates/a/src/lib.rt", missing),
+        ("crates/b/specs/deep/New.antt", missing),
+        ("crates/lrls/src/main.rt", missing),
+        ("crates.txt", missing),
+    ]:
+        stamped = (
+            os.stat(checkout.path(name)).st_mtime if os.path.exists(checkout.path(name)) else None
+        )
+        checkout.newer(name)
+        cases.check(f"a newer file {name}", awaited, checkout.run("check", "x"))
+        if stamped is None:
+            os.remove(checkout.path(name))
+        else:
+            os.utime(checkout.path(name), (stamped, stamped))
+
+
+NOTED = f"built from files that no gate has passed, and not proved; by {VERSION}"
 
 
 def files_below(folder):
-    """The files and links in a folder, by their paths."""
+    """The files and links in a folder, by their paths, with their sizes."""
     found = [os.path.join(where, name) for where, _, names in os.walk(folder) for name in names]
-    return sorted(os.path.relpath(path, folder) for path in found)
+    return sorted((os.path.relpath(path, folder), os.lstat(path).st_size) for path in found)
 
 
-def unreadable_files(folder):
-    """The files and folders in a folder that not everyone may read."""
-    found = [os.path.join(where, name) for where, folders, names in os.walk(folder) for name in [*folders, *names]]
-    return [path for path in found if not os.path.islink(path) and os.stat(path).st_mode & 0o044 != 0o044]
-
-
-def add_ide(checkout):
-    """A folder `ide` as a later one may be: with a command, a file that is none, settings, and what Python keeps."""
-    for name in ("ide", "ide/__pycache__"):
-        os.mkdir(os.path.join(checkout.top, name))
-    os.chmod(checkout.placed("ide/lrls-ide", '#!/bin/sh\necho "ide $*"\n'), 0o755)
-    for name in ("lrls-notes", "settings.json", "__pycache__/x.pyc"):
-        os.chmod(checkout.placed(f"ide/{name}", ""), 0o600)
-
-
-def prefixes(cases, checkout):
-    """What `install --prefix` lays out, also over another installation."""
-    add_ide(checkout)
-    prefix = os.path.join(checkout.top, "new", "pre fix")
-    for words in [[], [prefix, prefix]]:
-        usage = ("", "lrls: usage: lrls install --prefix FOLDER\n", 2)
-        cases.check(f"install --prefix, words {words}", usage, checkout.run("install", "--prefix", *words))
-    refused = ("", "lrls: cannot install into x: no folder can be made there\n", 1)
-    cases.check("install --prefix over a file", refused, checkout.run("install", "--prefix", "x"))
-    own = ("", "lrls: cannot install into .: the script `lrls` lies there; name another folder\n", 1)
-    cases.check("install --prefix over the script", own, checkout.run("install", "--prefix", "."))
-    said = f"lrls: installed; the command is {prefix}/bin/lrls\n"
-    for time in ("first", "second"):
-        cases.check(f"install --prefix, the {time} time", ("", said, 0), checkout.run("install", "--prefix", prefix))
-        cases.check(f"what is laid out the {time} time", LAID_OUT, files_below(prefix))
-        cases.check(f"what not everyone may read the {time} time", [], unreadable_files(prefix))
-        checkout.placed("new/pre fix/share/lrls/grammars/old.lr", "")
-        os.remove(os.path.join(prefix, "bin", "lrls"))
-        os.symlink("../../../x", os.path.join(prefix, "bin", "lrls"))
-    checkout.run("install", "--prefix", prefix)
-    cases.check("what a link led to before", b"", read(os.path.join(checkout.top, "x")))
-    for name in ("man1/lrls.1", "man5/lrgrammar.5"):
-        page = read(os.path.join(TOP, "man", os.path.basename(name)))
-        cases.check(f"installed: {name}", page, read(os.path.join(prefix, "share", "man", name)))
-    hindered(cases, checkout, prefix)
-    moved = os.path.join(checkout.top, "moved")
-    os.rename(prefix, moved)
-    installed(cases, checkout, moved)
-
-
-def installed(cases, checkout, moved):
-    """An installation works where it was moved to, by its own path and by links."""
-    link = os.path.join(checkout.bin, "installed")
-    os.symlink(os.path.join(moved, "bin", "lrls"), link)
-    version = checkout.run("--version")
-    for script in (link, os.path.join(moved, "bin", "lrls"), os.path.join(moved, "share", "lrls", "lrls")):
-        cases.check(f"{script} check", ("ran check x\n", "", 7), checkout.run("check", "x", script=script, cwd="/"))
-        cases.check(f"{script} --version", version, checkout.run("--version", script=script, cwd="/"))
-        cases.check(f"{script} show", ("", NO_PYTHON, 1), checkout.run("show", "x", "y", script=script, cwd="/"))
-    out, err, status = checkout.run("--help", script=link)
-    cases.check("the help of an installation", (True, False, "", 0), ("show [--tokens" in out, "package" in out, err, status))
-    cases.check("a carried command", ("ide a\n", "", 0), checkout.run("a", script=os.path.join(moved, "bin", "lrls-ide")))
-
-
-def hindered(cases, checkout, prefix):
-    """A file where a folder has to be: what is wrong is said, and the status is 1."""
-    shutil.rmtree(os.path.join(prefix, "share", "man"))
-    checkout.placed("new/pre fix/share/man", "")
-    out, err, status = checkout.run("install", "--prefix", prefix)
-    said = f"lrls: not installed into {prefix}, or in part only; the line above says why\n"
-    cases.check("install --prefix, hindered", ("", True, 1), (out, err.endswith(said) and err != said, status))
-    os.remove(os.path.join(prefix, "share", "man"))
-    checkout.run("install", "--prefix", prefix)
-
-
-def packages(cases, checkout):
-    """What `package` gives to dpkg-deb, and what it says where it can't."""
-    cases.check("package, words", ("", "lrls: usage: lrls package [FOLDER]\n", 2), checkout.run("package", "a", "b"))
-    missing = ("", "lrls: cannot make a package in nothing: it is no folder; make it first\n", 1)
-    cases.check("package, no folder", missing, checkout.run("package", "nothing"))
-    without = (
-        "lrls: making a package needs the command dpkg-deb, and no folder of PATH has it\n"
-        "lrls: on Debian: apt-get install dpkg gzip binutils\n"
+def fails_to_build(cases, checkout):
+    """What is said where no program comes of it, and what is done then."""
+    checkout.forget()
+    checkout.kit(before='echo "error[type]: a mistake"; exit 1')
+    said = "error[type]: a mistake\nlrls: lrls wasn't made; the lines above say why\n"
+    cases.check("a mistake in the sources", ("", QUICKLY + said, 1), checkout.run("check", "x"))
+    cases.check(
+        "nothing is proved then", [], [line for line in checkout.called() if "all test" in line]
     )
-    cases.check("package, no dpkg-deb", ("", without, 1), checkout.run("package"))
-    for name, text in STAND_INS.items():
-        checkout.stand_in(text, name)
-    package = os.path.join(checkout.top, "links", "lrls_2.3.4-1_riscv64.deb")
-    said = f"lrls: made {package}\nlrls: to install it, as root: apt-get install {package}\n"
-    cases.check("package", ("", said, 0), checkout.run("package", "links"))
-    with open(package, encoding="utf-8") as file:
-        files, control = file.read().split("Package: lrls\n")
-    packed = [f"usr/{name}" for name in LAID_OUT if not name.endswith((".md", ".1", ".5")) or "editors" in name]
-    packed += [f"usr/share/doc/lrls/{name}" for name in ("GRAMMARS.md", "IDE.md", "PERFORMANCE.md", "PROTOCOL.md", "README.md", "copyright")]
-    packed += ["usr/share/doc/lrls/changelog.gz", "usr/share/doc/lrls/changelog.Debian.gz", "DEBIAN/control"]
-    packed += [f"usr/{name}.gz" for name in LAID_OUT if name.startswith("share/man/")]
-    cases.check("the files of a package", sorted(packed), sorted(line[2:] for line in files.splitlines()))
-    fields = [line for line in control.splitlines() if line.startswith(("Version", "Architecture", "Maintainer", "Recommends"))]
-    recommended = "Recommends: python3 (>= 3.11), python3-aiohttp, libjs-codemirror"
-    cases.check("its fields", ["Version: 2.3.4-1", "Architecture: riscv64", "Maintainer: A <a@b.c>", recommended], fields)
-    cases.check("no empty line before its description", False, "\n\n" in control)
-    for more, named in [({"DEBEMAIL": "d@e"}, "lrls <d@e>"), ({"DEBEMAIL": "d@e", "DEBFULLNAME": "D E"}, "D E <d@e>")]:
-        checkout.run("package", "links", more=more)
-        cases.check(f"the maintainer by {more}", True, f"Maintainer: {named}\n".encode() in read(package))
-    left = [name for name in os.listdir(checkout.top) if name.startswith("tmp.")]
-    cases.check("folders left behind by a package", [], left)
+    checkout.kit(before='echo "unexpected argument"; exit 2')
+    awaited = (
+        "proved, ran check x\n",
+        f"{QUICKLY}unexpected argument\n{WITHOUT_A_DOOR}{PROVING}{DONE}{UNMARKED}",
+        7,
+    )
+    cases.check("a kit that has changed", awaited, checkout.run("check", "x"))
+    checkout.forget()
+    checkout.kit(door=False)
+    awaited = ("proved, ran check x\n", f"{WITHOUT_A_DOOR}{PROVING}{DONE}{UNMARKED}", 7)
+    cases.check("a kit without a door", awaited, checkout.run("check", "x"))
+    checkout.forget()
+    checkout.placed("out", "no folder")
+    refused = (
+        f"lrls: cannot write 8 MiB into {checkout.path('out', 'quick')}: Not a directory\n"
+        "lrls: the program is put there; make room, or clone the repository into another folder\n"
+    )
+    checkout.kit()
+    checkout.called()
+    cases.check("no place for the program", ("", refused, 1), checkout.run("check", "x"))
+    cases.check("nothing is made then", [], [line for line in checkout.called() if "clang" in line])
+    os.remove(checkout.path("out"))
+    cases.check("nothing is left of a build that failed", [], checkout.left())
 
 
-def newer_files(cases, checkout):
-    """What the script does where a file is newer than the program, which was built, and `rt` is missing."""
-    ran, missing = ("ran check x\n", "", 7), ("", NO_RT.format(top=checkout.top), 1)
-    for folder, awaited in [("crates/other/src", ran), ("crates/lrls/must-fail", ran), ("crates/lrls/src/part", missing)]:
-        os.makedirs(os.path.join(checkout.top, folder), exist_ok=True)
-        later = checkout.placed(f"{folder}/later", "")
-        os.utime(later, (2_000_000_000, 2_000_000_000))
-        cases.check(f"a newer file in {folder}", awaited, checkout.run("check", "x"))
+def two_at_once(cases, checkout):
+    """Of two runs at once one makes the program and the other waits for it."""
+    checkout.forget()
+    checkout.kit(before="sleep 2")
+    checkout.called()
+    runs = [checkout.begin("check", "x", stdin=subprocess.DEVNULL) for _ in range(2)]
+    ran = sorted(
+        timeless((out.decode(), err.decode(), 7))
+        for out, err in (run.communicate(timeout=60) for run in runs)
+    )
+    waited = "lrls: another run of this script is making the program; waiting for it\n"
+    cases.check(
+        "two at once",
+        sorted([("quick, ran check x\n", MADE, 7), ("quick, ran check x\n", waited, 7)]),
+        ran,
+    )
+    cases.check(
+        "it was made once", 1, len([line for line in checkout.called() if line.startswith("try")])
+    )
+
+
+def ended(cases, checkout):
+    """A signal ends the script and what it has begun, and nothing is left; the next run makes the
+    program."""
+    checkout.kit(before='echo $$ > "$TMPDIR/trying"; sleep 30')
+    for number in (signal.SIGINT, signal.SIGTERM, signal.SIGHUP):
+        checkout.forget()
+        started = checkout.begin("check", "x", stdin=subprocess.DEVNULL)
+        trying = os.path.join(checkout.temporary, "trying")
+        wait_for(trying)
+        started.send_signal(number)
+        started.communicate(timeout=60)
+        with open(trying, encoding="ascii") as file:
+            runs = os.path.exists(f"/proc/{int(file.read())}")
+        os.remove(trying)
+        cases.check(
+            f"ended by {number.name}",
+            (128 + number, False, []),
+            (started.returncode, runs, checkout.left()),
+        )
+    checkout.kit()
+    cases.check(
+        "begun again", ("quick, ran check x\n", MADE, 7), timeless(checkout.run("check", "x"))
+    )
+
+
+def wait_for(path):
+    """Waits until there is a file that isn't empty."""
+    end = time.monotonic() + 30
+    while not (os.path.exists(path) and os.path.getsize(path)) and time.monotonic() < end:
+        time.sleep(0.02)
+
+
+def logged(line):
+    """A log message with this line, as it is sent."""
+    params = {"type": 3, "message": f"lrls: {line}"}
+    content = json.dumps(
+        {"jsonrpc": "2.0", "method": "window/logMessage", "params": params}, separators=(",", ":")
+    )
+    return f"Content-Length: {len(content)}\r\n\r\n{content}"
+
+
+def for_an_editor(cases, checkout):
+    """An editor that starts the server is told by log messages, once it has spoken, and needn't
+    wait."""
+    checkout.forget()
+    checkout.kit()
+    quickly, made = MADE.replace("lrls: ", "", 1).splitlines()
+    out, err, status = timeless(checkout.run("serve", "x", given=b"Content"))
+    told = re.sub(r"Content-Length: \d+", "", re.sub(r"made in \d+ s;", "made in N s;", out))
+    lines = (quickly, made.replace("lrls: ", "", 1), f"lrls was {NOTED}")
+    awaited = "".join(re.sub(r"Content-Length: \d+", "", logged(line)) for line in lines)
+    said = f"{MADE}lrls: lrls was {NOTED}\n"
+    cases.check(
+        "an editor starts it unbuilt",
+        (awaited + "quick, ran serve x\n", said, 7),
+        (told, err, status),
+    )
+    awaited = (logged(UNPROVED) + "quick, ran serve x\n", "", 7)
+    cases.check("an editor starts it", awaited, checkout.run("serve", "x", given=b"Content"))
+    cases.check(
+        "a client that says nothing", ("quick, ran serve x\n", "", 7), checkout.run("serve", "x")
+    )
+    checkout.forget()
+    checkout.kit(door=False)
+    refused = (
+        "lrls: lrls isn't built, and this kit can't make it without a proof, for which no editor waits\n"
+        f"lrls: run this in a terminal first: {checkout.path('lrls')} prove\n"
+    )
+    cases.check("an editor, and a kit without a door", ("", refused, 1), checkout.run("serve", "x"))
+    checkout.kit(before='echo "error[type]: a mistake"; exit 1')
+    out, err, status = checkout.run("serve", "x")
+    log = checkout.path("out", "build-lrls.log")
+    cases.check(
+        "an editor, and a mistake",
+        ("", True, 1),
+        (out, err.endswith(f"lrls: lrls wasn't made; {log} says why\n"), status),
+    )
+    gives_up(cases, checkout)
+
+
+def gives_up(cases, checkout):
+    """Where an editor doesn't wait, the program is made all the same."""
+    checkout.forget()
+    checkout.kit(before='echo $$ > "$TMPDIR/trying"; sleep 1')
+    started = checkout.begin("serve", "x", stdin=subprocess.PIPE)
+    trying = os.path.join(checkout.temporary, "trying")
+    wait_for(trying)
+    started.kill()
+    started.communicate(timeout=60)
+    program = checkout.path("out", "quick", "lrls.note")
+    wait_for(program)
+    os.remove(trying)
+    cases.check(
+        "an editor that gives up", ("quick, ran check x\n", "", 7), checkout.run("check", "x")
+    )
+
+
+def proves(cases, checkout):
+    """`prove` makes the program that counts from then on, in the way in which the kit keeps what is
+    proved."""
+    checkout.forget()
+    checkout.kit()
+    checkout.run("check", "x")
+    checkout.called()
+    cases.check("prove, in place", ("", PROVING + DONE + UNMARKED, 0), checkout.run("prove"))
+    cases.check(
+        "how it is proved in place",
+        True,
+        any(re.fullmatch(r"rt all test --jobs \d+", line) for line in checkout.called()),
+    )
+    cases.check(
+        "the proved program counts", ("proved, ran check x\n", "", 7), checkout.run("check", "x")
+    )
+    checkout.newer("crates/a/src/lib.rt")
+    checkout.forget()
+    checkout.kit(keeps=True)
+    checkout.placed("crates/lrls/must-fail/an.edit", "")
+    cases.check("prove, in a copy", ("", PROVING + DONE + UNMARKED, 0), checkout.run("prove"))
+    files = "a: \nb: a\nlrls: b\nnone " + "\n".join(
+        ["crates/a/src/lib.rt", "crates/b/src/lib.rt", "crates/lrls/src/main.rt"]
+    )
+    out, _, _ = checkout.run("check", "x")
+    cases.check("the files of the copy", sorted(files.split()), sorted(out.split()))
+    checkout.forget()
+    checkout.stand_in(FAILS.format(version=VERSION))
+    failed = f"{PROVING}{DONE}lrls: done with lrls, 2 of 3, after 0 min\n"
+    said = "== lrls\nan error\nrt: lrls NOT PROVED\n0 passed, 1 failed\nlrls: lrls wasn't built; what is proved is kept for the next time\n"
+    cases.check("a crate isn't proved", ("", failed + said, 1), checkout.run("prove"))
+    cases.check("nothing is left of a proof", [], checkout.left())
+
+
+def two_programs(cases, checkout):
+    """A second program of the repository is made and proved by the same calls."""
+    checkout.forget()
+    checkout.kit()
+    checkout.placed("crates.txt", "a:\nb: a\nlrls: b\nlrls_ide: a\n")
+    checkout.placed("crates/lrls_ide/src/main.rt", "")
+    checkout.forget()
+    quickly = MADE.replace("lrls isn't", "lrls-ide isn't")
+    said = f"{MADE}lrls: lrls was {NOTED}\n{quickly}lrls: lrls-ide was {NOTED}\n"
+    cases.check("build, two programs", ("", said, 0), timeless(checkout.run("build")))
+    proving = PROVING.replace("3 crates of lrls", "2 crates of lrls-ide")
+    done, unmarked = DONE.replace("of 3", "of 2"), UNMARKED.replace(
+        "lrls: lrls was", "lrls: lrls-ide was"
+    )
+    cases.check(
+        "prove, two programs",
+        ("", PROVING + DONE + UNMARKED + proving + done + unmarked, 0),
+        checkout.run("prove"),
+    )
+    shutil.rmtree(checkout.path("crates", "lrls_ide"))
+    checkout.placed("crates.txt", "a:\nb: a\nlrls: b\ntests: lrls\n")
+
+
+def versions(cases, checkout):
+    """What `--version` says: the version, the commit where there is one, and how the program that
+    counts was made."""
+    checkout.forget()
+    checkout.kit()
+    cases.check(
+        "nothing built, no commit",
+        ("lrls 1.0.0\ncommit unknown\nnot built\n", "", 0),
+        checkout.run("--version"),
+    )
+    checkout.placed("CHANGELOG.md", "# Changes\n\n## Unreleased\n\n## 2.3.4\n\n## 2.3.3\n")
+    published = f"built from a commit whose gate passed, proofs not repeated here; by {VERSION}"
+    for changed, remote, more, awaited in [
+        ("", "  origin/main\n", "", published),
+        (" M lrls\n", "  origin/main\n", ", with changes since", NOTED),
+        ("", "", "", NOTED),
+    ]:
+        checkout.stand_in(GIT, "git")
+        write(os.path.join(checkout.temporary, "changed"), changed)
+        write(os.path.join(checkout.temporary, "remote"), remote)
+        checkout.forget()
+        checkout.run("check", "x")
+        said = (f"lrls 2.3.4\ncommit 0123456789ab{more}\n{awaited}\n", "", 0)
+        cases.check(f"the version after {changed!r} of {remote!r}", said, checkout.run("--version"))
+    marked(cases, checkout)
+
+
+GIT = """#!/bin/sh
+case "$*" in
+*rev-parse*) echo 0123456789ab ;;
+*status*) cat "$TMPDIR/changed" ;;
+*branch*) cat "$TMPDIR/remote" ;;
+*log*) echo "A <a@b.c>" ;;
+esac
+"""
+# A program as the compiler makes it of what it has proved.
+MARKED = '__asm__(".ident \\"rattle logic=%s\\"");\nint main(void) { return 7; }\n'
+
+
+def compiled(checkout, logic):
+    """A program with the compiler's mark."""
+    source, path = os.path.join(checkout.temporary, "marked.c"), os.path.join(
+        checkout.temporary, "marked"
+    )
+    write(source, MARKED % logic)
+    subprocess.run(["cc", "-o", path, source], check=True)
+    return path
+
+
+def marked(cases, checkout):
+    """ "Proved here" is said of a program that has the compiler's mark and whose kit was noted, and
+    of no other one."""
+    if shutil.which("cc") is None:
+        return
+    program = checkout.path("crates", "lrls", "out", "lrls")
+    for logic, awaited in [
+        ("0123456789abcdef0123", f"proved here with {VERSION}"),
+        (
+            "fedcba98765432100123",
+            "proved by a kit of logic fedcba9876543210, by the compiler's mark; which kit wasn't noted",
+        ),
+    ]:
+        checkout.forget()
+        copy = f'mkdir -p out; cp "{compiled(checkout, logic)}" out/lrls'
+        checkout.stand_in(
+            RT.format(version=VERSION).replace(
+                '"all test --jobs "*)', f'"all test --jobs "*) {copy}; exit ;;\nnever)'
+            )
+        )
+        cases.check(
+            f"prove, marked {logic}",
+            f"lrls: lrls was {awaited}\n",
+            checkout.run("prove")[1][len(PROVING) :],
+        )
+        checkout.called()
+        again = (checkout.run("prove"), [line for line in checkout.called() if "all" in line])
+        cases.check(
+            f"prove again, marked {logic}", (("", f"lrls: lrls was {awaited}\n", 0), []), again
+        )
+        cases.check(
+            f"the version, marked {logic}", awaited, checkout.run("--version")[0].splitlines()[-1]
+        )
+    checkout.forget()
+    os.makedirs(os.path.dirname(program))
+    shutil.copy(compiled(checkout, "0123456789abcdef"), program)
+    unnoted = (
+        "proved by a kit of logic 0123456789abcdef, by the compiler's mark; which kit wasn't noted"
+    )
+    cases.check(
+        "a marked program without a note", unnoted, checkout.run("--version")[0].splitlines()[-1]
+    )
+    write(program, "#!/bin/sh\n", 0o755)
+    cases.check(
+        "any file",
+        "built in a way that was not noted, and not proved",
+        checkout.run("--version")[0].splitlines()[-1],
+    )
 
 
 def run(cases, folder, refused, usage):
     checkout = Checkout(folder)
-    without_rt(cases, checkout, refused, usage)
+    refuses_words(cases, checkout, refused, usage)
+    refuses_other_files(cases, checkout)
+    without_rt(cases, checkout)
+    builds_quickly(cases, checkout)
+    fails_to_build(cases, checkout)
+    two_at_once(cases, checkout)
+    ended(cases, checkout)
+    for_an_editor(cases, checkout)
+    proves(cases, checkout)
+    two_programs(cases, checkout)
     versions(cases, checkout)
-    unproved(cases, checkout)
-    builds(cases, checkout)
-    installs(cases, checkout)
-    prefixes(cases, checkout)
-    packages(cases, checkout)
-    newer_files(cases, checkout)

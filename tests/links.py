@@ -1,0 +1,39 @@
+"""Links of Markdown pages, and where they lead."""
+
+import os
+import re
+
+LINK = re.compile(r"\[[^\]]*\]\(([^)\s]+)\)")
+HEADING = re.compile(r"^#+ +(.*)$", re.MULTILINE)
+FENCE = re.compile(r"^```.*?^```", re.MULTILINE | re.DOTALL)
+
+
+def pages_below(folder):
+    """The paths of the pages in a folder."""
+    found = [os.path.join(where, name) for where, _, names in os.walk(folder) for name in names]
+    return sorted(path for path in found if path.endswith(".md"))
+
+
+def anchors(text):
+    """The names by which the sections of a page can be linked to."""
+    plain = (
+        re.sub(r"[^\w\- ]", "", heading.lower()) for heading in HEADING.findall(FENCE.sub("", text))
+    )
+    return {name.strip().replace(" ", "-") for name in plain}
+
+
+def read(path):
+    with open(path, encoding="utf-8") as file:
+        return file.read()
+
+
+def dead(path):
+    """The links of a page that lead to no file, or to no section of a page."""
+    folder = os.path.dirname(path)
+    for target in LINK.findall(FENCE.sub("", read(path))):
+        if "://" in target:
+            continue
+        name, _, section = target.partition("#")
+        file = os.path.join(folder, name) if name else path
+        if not os.path.exists(file) or section and section not in anchors(read(file)):
+            yield target
