@@ -63,9 +63,13 @@ local after_end = {}
 -- The job that looks at the grammar of each language, by the language's name.
 local checks = {}
 
--- Shows a message. Where it has several lines, Neovim 0.7 draws its prompt over the last one.
+-- Shows a message. Of several lines `vim.notify` makes so many messages in Neovim 0.7, and asks for Enter twice.
 local function notify(text)
-  vim.notify("lrls: " .. text .. (text:find("\n") and "\n" or ""), vim.log.levels.ERROR)
+  if text:find("\n") then
+    vim.api.nvim_echo({ { "lrls: " .. text, "ErrorMsg" } }, true, {})
+  else
+    vim.notify("lrls: " .. text, vim.log.levels.ERROR)
+  end
 end
 
 local function tick_of(buffer)

@@ -133,8 +133,10 @@ def builds_quickly(cases, checkout):
     )
     called = checkout.called()
     compiled = [line for line in called if line.startswith("clang")]
-    trial, program = "clang -O1 -c module.bc -o module.o", "clang -O1 -c module.bc -o module.o"
-    cases.check("how it is compiled", [trial, program], compiled)
+    once = "clang -O1 -c module.bc -o module.o"
+    cases.check("how it is compiled", [once, once], compiled[:2])
+    stack = checkout.path("script", "checkout", "stack.c")
+    cases.check("what is linked with it", True, compiled[2].endswith(f"-c {stack} -o stack.o"))
     cases.check("where it is lowered", True, f"try in {checkout.path('crates', 'lrls')}" in called)
     cases.check(
         "the kit is as it was", before, files_below(os.path.join(checkout.temporary, "kit"))

@@ -24,6 +24,8 @@ ROOM = 8 * MIB
 # A check takes 2 to 4 GB of memory.
 BYTES_OF_A_CHECK = 4_194_304 * 1024
 
+ALL_TEST = os.path.join(os.path.dirname(os.path.abspath(__file__)), "all_test.py")
+
 DONE = re.compile(r"^(?:== (?!summary$)(.*)|rt: ([a-z0-9_]*) is kept: .*)$", re.MULTILINE)
 FAILED = re.compile(r"^rt: ([a-z0-9_]*) NOT PROVED$|^([a-z0-9_]*): failed", re.MULTILINE)
 
@@ -58,7 +60,7 @@ def prove(checkout: Checkout, program: Program, kit: Kit) -> None:
         if kit.keeps():
             prove_in_a_copy(checkout, program, os.path.join(work, "copy"), log, report)
         else:
-            prove_in_place(checkout, program, log, report)
+            prove_in_place(checkout, program, kit, log, report)
         if not os.access(path, os.X_OK):
             complain(read(log), program)
     os.utime(path, (begun, begun))
@@ -67,7 +69,7 @@ def prove(checkout: Checkout, program: Program, kit: Kit) -> None:
 
 
 def prove_in_place(
-    checkout: Checkout, program: Program, log: str, report: Callable[[], None]
+    checkout: Checkout, program: Program, kit: Kit, log: str, report: Callable[[], None]
 ) -> None:
     """Proves and builds the program where it stands. What is proved is kept in the folders `out`,
     also where this is ended."""
@@ -75,7 +77,8 @@ def prove_in_place(
     need_room(checkout.path("out"), crates * ROOM_OF_A_CRATE, "what is proved")
     # It also runs the program on its stored session and looks at the layout of files; what counts
     # is whether there is a program then.
-    words = ["rt", "all", "test", "--jobs", str(lanes())]
+    rt = [sys.executable, "-IS", ALL_TEST, kit.path("bin/rt")] if kit.is_python() else ["rt"]
+    words = [*rt, "all", "test", "--jobs", str(lanes())]
     follow(words, checkout.path("crates", program.crate), log, report)
     report()
 
