@@ -14,6 +14,13 @@ def pages_below(folder):
     return sorted(path for path in found if path.endswith(".md"))
 
 
+def pages_of(top):
+    """The paths of the pages of the repository."""
+    yield from (os.path.join(top, name) for name in sorted(os.listdir(top)) if name.endswith(".md"))
+    for folder in ("docs", "editors"):
+        yield from pages_below(os.path.join(top, folder))
+
+
 def anchors(text):
     """The names by which the sections of a page can be linked to."""
     plain = (

@@ -259,10 +259,10 @@ class Answers:
         serial = document.serial
         entries = await self.language.outliner.entries(structure, document.text)
         self.unchanged(document, serial)
-        old = self.moved(document)
         if structure.fault is not None:
-            entries = joined_outlines(entries, old, structure.fault)
+            entries = joined_outlines(entries, self.moved(document), structure.fault)
         else:
+            document.moves.clear()
             document.made["outline"] = entries
         return hierarchy(entries) if self.has_hierarchy else flat(entries, uri)
 

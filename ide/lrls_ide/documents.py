@@ -5,10 +5,11 @@ sent and not confirmed yet waits in order; a core that is started again gets tha
 """
 
 import asyncio
+import itertools
 import json
 from collections import deque
 from dataclasses import dataclass, field
-from typing import Any
+from typing import Any, Sequence
 
 from .text import Change, Text, Unit, is_count, range_in
 from .tokens import Tokens, Unread
@@ -22,13 +23,14 @@ MOST_MOVES = 4_000
 
 @dataclass
 class Sent:
-    """A message about a document that the core hasn't confirmed yet."""
+    """A message about a document that the core hasn't confirmed yet. `number` says which of all messages it is."""
 
     kind: str
     version: int = 0
     text: str = ""
     changes: list[Any] = field(default_factory=list)
     language: str = ""
+    number: int = 0
 
 
 @dataclass
@@ -123,6 +125,7 @@ class Documents:
         self.held: dict[str, Document] = {}
         self.sent: dict[str, deque[Sent]] = {}
         self.ending: str | None = None
+        self.numbers = itertools.count(1)
 
     def note(self, method: str, params: Any) -> None:
         """A notification about a document is sent to the core."""
@@ -141,13 +144,26 @@ class Documents:
             changes = params.get("contentChanges")
             is_list = isinstance(changes, list)
             sent = Sent("change" if is_list else "malformed", version, changes=changes if is_list else [])
+        sent.number = next(self.numbers)
         self.sent.setdefault(uri, deque()).append(sent)
+
+    def refuse(self, kinds: Sequence[str]) -> str | None:
+        """The core has refused the first message of these kinds that it hasn't confirmed: it is as if it weren't sent. The document's
+        URI."""
+        waiting = [(sent.number, uri, sent) for uri, queue in self.sent.items() for sent in queue if sent.kind in kinds]
+        if not waiting:
+            return None
+        _, uri, sent = min(waiting, key=lambda one: one[0])
+        self.sent[uri].remove(sent)
+        self.tidy(uri)
+        return uri
 
     def reopened(self, uri: str) -> dict[str, Any]:
         """A document is sent to the core anew: its parameters of `didOpen`."""
         document = self.held[uri]
         text = str(document.text)
-        self.sent.setdefault(uri, deque()).append(Sent("open", document.version, text, language=document.language))
+        sent = Sent("open", document.version, text, language=document.language, number=next(self.numbers))
+        self.sent.setdefault(uri, deque()).append(sent)
         return {"textDocument": {"uri": uri, "languageId": document.language, "version": document.version, "text": text}}
 
     def is_settled(self, uri: str) -> bool:
@@ -180,7 +196,9 @@ class Documents:
         """The core has taken the message with this version, and refused those before it."""
         while queue:
             sent = queue.popleft()
-            if sent.kind in ("open", "change") and sent.version == version:
+            # A change of a document that isn't held can't be what the core has taken.
+            kinds = ("open", "change") if uri in self.held else ("open",)
+            if sent.kind in kinds and sent.version == version:
                 self.take(uri, sent)
                 return
 

@@ -101,12 +101,14 @@ class Probe:
     async def begins_no_token(self) -> str:
         """A character that begins no token; empty where none was found."""
         if self.stranger is None:
-            self.stranger = ""
+            found = ""
             for character in STRANGERS:
                 await self.show(character)
                 if json.loads(await self.ask("lr/tokens"))[0][0] == "invalid":
-                    self.stranger = character
+                    found = character
                     break
+            # A search that is cancelled, or that the core has no room for, has found nothing out.
+            self.stranger = found
         return self.stranger
 
     async def expected(self, text: str) -> list[str]:

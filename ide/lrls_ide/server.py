@@ -35,6 +35,13 @@ WATCH = 0.3
 MODIFIED = Refused(-32801, "content modified")
 CANCELLED = Refused(-32800, "request cancelled")
 ENCODINGS = ("utf-8", "utf-16", "utf-32")
+# What the core logs of a message about a document that it refuses, and what kinds of message that may be.
+REFUSALS = {
+    "didOpen: too many documents": ("open",),
+    "didOpen: malformed": ("malformed",),
+    "didChange: document not open": ("change", "malformed"),
+    "didClose: document not open": ("close",),
+}
 
 
 class Server:
@@ -204,6 +211,10 @@ class Server:
                 self.core.tell("textDocument/didOpen", self.documents.reopened(uri))
         for content in self.in_flight.values():
             self.core.send(content)
+        self.refresh_colours()
+
+    def refresh_colours(self) -> None:
+        """Has the editor ask for the colours again, where it can."""
         if member(self.params, "capabilities", "workspace", "semanticTokens", "refreshSupport"):
             self.send({"jsonrpc": "2.0", "id": "lrls-ide refresh", "method": "workspace/semanticTokens/refresh"})
 
@@ -256,6 +267,14 @@ class Server:
         }
 
     async def watch_files(self) -> None:
+        """Looks after the files of the language. What goes wrong at one writing is told, and the next one is looked at all the same."""
+        while True:
+            try:
+                await self.watch_each()
+            except Exception:
+                traceback.print_exc(file=sys.stderr)
+
+    async def watch_each(self) -> None:
         """Starts the core again when the grammar was written, and takes new settings. What is still being written isn't read."""
         known = last = self.source.stamps()
         while True:
@@ -268,7 +287,7 @@ class Server:
             if is_grammar or self.core is None:
                 await self.start_again(None)
             elif self.core is not None and self.language is not None:
-                self.take_settings(load(self.source))
+                self.take_settings(self.loaded())
 
     def take_settings(self, language: Language) -> None:
         """The settings were written: they are used, and the diagnostics are published again in their words."""
@@ -276,6 +295,7 @@ class Server:
         for document in self.documents.held.values():
             document.forget()
             self.publish(document.uri, document.version, document.diagnostics)
+        self.refresh_colours()
 
     # From the editor.
 
@@ -316,7 +336,7 @@ class Server:
             number = key_of(message["id"])
             task = asyncio.create_task(self.answer(message["id"], method, message.get("params")))
             self.tasks[number] = task
-            task.add_done_callback(lambda _: self.tasks.pop(number, None) if self.tasks.get(number) is task else None)
+            task.add_done_callback(lambda _: self.answer_ended(message["id"], task))
             return
         elif method == "shutdown" and self.phase == "ready":
             self.phase = "down"
@@ -324,6 +344,13 @@ class Server:
         self.to_core(content)
         if self.core is None and not self.is_starting:
             self.answer_without_core()
+
+    def answer_ended(self, number: Any, task: "asyncio.Task[None]") -> None:
+        """The work on a request has ended. One that was cancelled before it began is answered here."""
+        if self.tasks.get(key_of(number)) is task:
+            del self.tasks[key_of(number)]
+        if task.cancelled() and not self.status.done():
+            self.refuse(number, CANCELLED)
 
     def to_core(self, content: bytes) -> None:
         """Sends a message on, where a core runs. Requests wait for the next one otherwise, and documents are kept here."""
@@ -454,11 +481,19 @@ class Server:
         cause = str(member(json.loads(content), "params", "message"))
         if not cause.startswith(LOST):
             self.documents.closed()
+            self.refused(cause)
         else:
             document = self.documents.lose(cause.removeprefix(LOST))
             if document is not None:
                 self.show(ERROR, self.told_loss(document.uri, cause.removeprefix(LOST)))
         self.put(content)
+
+    def refused(self, cause: str) -> None:
+        """The core has refused a message: it doesn't count. A document that has no room is shown."""
+        uri = self.documents.refuse(REFUSALS.get(cause, ()))
+        if uri is not None and cause == "didOpen: too many documents":
+            name = os.path.basename(uri) or uri
+            self.show(ERROR, f"{name} is the 65th document: it isn't looked at; close another one, and open it again")
 
     def told_loss(self, uri: str, cause: str) -> str:
         """What to say of a lost document."""

@@ -99,10 +99,13 @@ class SettingsReader:
         if unknown or not {"node", "name", "kind"} <= set(row):
             raise self.fault(where, "has `node`, `name` and `kind`, and perhaps `with`")
         names = row["name"] if isinstance(row["name"], list) else [row["name"]]
+        for key, texts in (("node", [row["node"]]), ("name", names), ("kind", [row["kind"]]), ("with", [row.get("with", "")])):
+            if not all(isinstance(text, str) for text in texts):
+                raise self.fault(where, f"{key} has to be a text in quotes{', or a list of such texts' if key == 'name' else ''}")
         left_sides = self.grammar.left_sides
         if row["node"] not in left_sides:
             raise self.fault(where, f"node: {row['node']} is no nonterminal of the grammar")
-        for name in [part for name in names for part in str(name).split(".", 1)]:
+        for name in [part for name in names for part in name.split(".", 1)]:
             if name.rstrip("*+?") not in left_sides | set(self.grammar.rules):
                 raise self.fault(where, f"name: {name} is neither a token rule nor a nonterminal of the grammar")
         if row["kind"] not in KINDS:

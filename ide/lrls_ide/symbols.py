@@ -1,6 +1,7 @@
 """The outline of a text: what the protocol calls document symbols."""
 
 import asyncio
+import time
 from dataclasses import dataclass, replace
 from typing import Any, Iterator
 
@@ -10,8 +11,8 @@ from .text import Change, Place, Text, Unit, moved, span
 from .tokens import end_of, start_of
 from .trees import Tree
 
-# So many nodes are looked at without letting other work go on.
-STEP = 5_000
+# So many seconds are worked without letting other work go on.
+STEP = 0.01
 
 
 @dataclass(frozen=True)
@@ -48,11 +49,13 @@ class Outliner:
         if tree is None:
             return []
         found = []
+        until = time.perf_counter() + STEP
         for node, name in enumerate(tree.names):
             if name in self.symbols:
                 found += list(self.of_node(structure, tree, node, text))[:1]
-            if node % STEP == STEP - 1:
+            if time.perf_counter() > until:
                 await asyncio.sleep(0)
+                until = time.perf_counter() + STEP
         return found
 
     def of_node(self, structure: Structure, tree: Tree, node: int, text: Text) -> Iterator[Entry]:

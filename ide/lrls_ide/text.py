@@ -41,12 +41,9 @@ class Unit:
         """The index of this character in a line, which is at most the line's length. Within a character it is that one's."""
         if self.name == "utf-32" or line.isascii():
             return min(character, len(line))
-        at = 0
-        for index, letter in enumerate(line):
-            at += self.width(letter)
-            if at > character:
-                return index
-        return len(line)
+        codec, size = ("utf-8", 1) if self.name == "utf-8" else ("utf-16-le", 2)
+        before = line.encode(codec, "surrogatepass")[: size * character]
+        return len(before.decode(codec, "ignore"))
 
 
 class Text:
