@@ -1,9 +1,14 @@
 -- A grammar with one sentence, of one kind: what is expected, and the verdicts.
-use Rattle.definitions.proofs.Common.{◌≡◌, ◌⊎◌, Option, None, ℕ, zero, suc, ◌+◌, List, [], ◌∷◌, length, take, true, false, Some, Contains, head-eq_of_cons-eq, Kind, Invalid, Symbol, Terminal, Grammar, Production, HasProduction, Forest, Leaf, Branch, Nil, Cons, AreTrees, yield, IsSentence, IsViable, FaultAt, FaultAtEnd, IsVerdict, IsExpected}
-use Rattle.std.specs.Prelude.{◌++◌, refl}
+use Rattle.std.specs.Prelude.{◌≡◌, ◌⊎◌, Option, None, ℕ, zero, suc, ◌+◌, List, [], ◌∷◌, length, take, true, false, Some, Contains, ◌++◌, refl}
 use Rattle.std.proofs.Common.{inl, inr, arith, sym, ap, subst, ◌∙◌}
-use Rattle.definitions.specs.declared.Kind.TheVariants.{Rule as Token}
+use mathlib.Core.List.{head-eq_of_cons-eq}
 use Rattle.definitions.proofs.Ordered.{Contains-first, Contains-none, Contains-cases}
+use Rattle.definitions.specs.declared.Kind.TheVariants.{Invalid, Rule as Token}
+use Rattle.definitions.specs.declared.Kind.{Kind}
+use Rattle.definitions.specs.declared.Symbol.TheVariants.{Rule as Terminal}
+use Rattle.definitions.specs.declared.Symbol.{Symbol}
+use Rattle.definitions.specs.Sentences.{IsSentence, IsViable, FaultAt, FaultAtEnd, IsVerdict, IsExpected}
+use Rattle.definitions.specs.Trees.{Grammar, Production, HasProduction, Forest, Leaf, Branch, Nil, Cons, AreTrees, yield}
 
 -- S = NUM
 abbrev alone : Grammar

@@ -1,7 +1,18 @@
 -- One or more digits: how the expression is spelled, what it matches, and the tokens of `12`.
-use Rattle.definitions.proofs.Common.{◌≡◌, ◌≢◌, ◌≤◌, ℕ, zero, suc, false, List, [], ◌∷◌, length, codes, Vec, AllByRecursion, concat, Global, Rule, Interval, Expression, Class, Star', Plus', MatchesEmpty, Matches, Plain, Address, Spells, SpellsAt, IsPattern, Atom, class, plus, star, one_seq, one_rep, first_fault, IsFault, IsPiece, IsDead, Token, AreTokens}
-use Rattle.std.specs.Prelude.{◌++◌, refl}
+use Rattle.std.specs.declared.alloc.Global.{Global}
+use Rattle.std.specs.List.{AllByRecursion, concat}
+use Rattle.std.specs.Prelude.{◌≡◌, ◌≢◌, ◌≤◌, ℕ, zero, suc, false, List, [], ◌∷◌, length, codes, Vec, ◌++◌, refl}
 use Rattle.std.proofs.Common.{arith, ap, inl, inr, length-append}
+use Rattle.definitions.specs.declared.expression.Expression.TheVariants.{Class, Star', Plus'}
+use Rattle.definitions.specs.declared.expression.Expression.{Expression}
+use Rattle.definitions.specs.declared.expression.Interval.{Interval}
+use Rattle.definitions.specs.declared.expression.PatternCause.TheVariants.{MatchesEmpty}
+use Rattle.definitions.specs.declared.Kind.TheVariants.{Rule}
+use Rattle.definitions.specs.PatternFaults.{first_fault, IsFault}
+use Rattle.definitions.specs.Patterns.{Matches}
+use Rattle.definitions.specs.PatternText.{Plain}
+use Rattle.definitions.specs.Spelling.{Address, Spells, SpellsAt, IsPattern, Atom, class, plus, star, one_seq, one_rep}
+use Rattle.definitions.specs.Tokens.{IsPiece, IsDead, Token, AreTokens}
 
 -- wherever its parts lie in memory
 module _ (p : Address) (v : Vec Interval Global) (digits : v.items ≡ record { first = 48; last = 57 } ∷ []) where

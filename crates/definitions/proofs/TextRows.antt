@@ -1,6 +1,9 @@
 -- Positions, offsets and changes of small texts, computed.
-use Rattle.definitions.proofs.Common.{◌≡◌, ℕ, List, [], ◌∷◌, codes, Some, Position, Range, Utf8, Utf16, Utf32, break_ends, line_of, line_start, line_from, units, greatest, offset, position, changed}
-use Rattle.std.specs.Prelude.{refl}
+use Rattle.std.specs.Prelude.{◌≡◌, ℕ, List, [], ◌∷◌, codes, Some, refl}
+use Rattle.definitions.specs.declared.Position.{Position}
+use Rattle.definitions.specs.declared.Range.{Range}
+use Rattle.definitions.specs.declared.Unit.TheVariants.{Utf8, Utf16, Utf32}
+use Rattle.definitions.specs.Text.{break_ends, line_of, line_start, line_from, units, greatest, offset, position, changed}
 
 abbrev at : ℕ → ℕ → Position
 at l c = record { line = l; character = c }

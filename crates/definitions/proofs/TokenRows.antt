@@ -1,6 +1,10 @@
 -- What small edits keep, computed.
-use Rattle.definitions.proofs.Common.{◌≡◌, ℕ, Bool, true, false, List, [], ◌∷◌, length, Edit, Kind, Rule, Invalid, Token, made, splice}
-use Rattle.std.specs.Prelude.{refl}
+use Rattle.std.specs.Prelude.{◌≡◌, ℕ, Bool, true, false, List, [], ◌∷◌, length, refl}
+use Rattle.definitions.specs.declared.Edit.{Edit}
+use Rattle.definitions.specs.declared.Kind.TheVariants.{Rule, Invalid}
+use Rattle.definitions.specs.declared.Kind.{Kind}
+use Rattle.definitions.specs.TokenEdits.{made, splice}
+use Rattle.definitions.specs.Tokens.{Token}
 
 abbrev token : Kind → ℕ → ℕ → Token
 token k n r = record { kind = k; length = n; reach = r }

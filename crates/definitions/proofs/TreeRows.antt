@@ -1,8 +1,11 @@
 -- `1+2+3`, and `+4` put in after it: the last number is scanned again, and of the branches four are built.
-use Rattle.definitions.proofs.Common.{◌≡◌, ℕ, ◌+◌, ◌<◌, ◌≤◌, List, [], ◌∷◌, length, Rule, Splice, Tree, Forest, Leaf, Branch, Nil, Cons, yields, Top, Below, place_of, IsTouched, IsMoved, IsKept, Built, Nothing, Kept, New}
-use Rattle.std.specs.Prelude.{refl}
+use Rattle.std.specs.Prelude.{◌≡◌, ℕ, ◌+◌, ◌<◌, ◌≤◌, List, [], ◌∷◌, length, refl}
 use Rattle.std.proofs.Common.{arith, inl, inr}
-use Rattle.definitions.specs.TreeEdits.{Token}
+use Rattle.definitions.specs.declared.Kind.TheVariants.{Rule}
+use Rattle.definitions.specs.Nodes.{Top, Below, place_of}
+use Rattle.definitions.specs.TokenEdits.{Splice}
+use Rattle.definitions.specs.TreeEdits.{IsTouched, IsMoved, IsKept, Built, Nothing, Kept, New, Token}
+use Rattle.definitions.specs.Trees.{Tree, Forest, Leaf, Branch, Nil, Cons, yields}
 
 -- Atom = NUM, Sum = Atom, Sum = Sum PLUS Atom
 abbrev atom : Tree

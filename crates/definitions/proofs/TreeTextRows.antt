@@ -1,6 +1,8 @@
 -- The text of the tree of `1+2`.
-use Rattle.definitions.proofs.Common.{◌≡◌, [], ◌∷◌, codes, Rule, Tree, Leaf, Branch, forest, tree_text}
-use Rattle.std.specs.Prelude.{refl}
+use Rattle.std.specs.Prelude.{◌≡◌, [], ◌∷◌, codes, refl}
+use Rattle.definitions.specs.declared.Kind.TheVariants.{Rule}
+use Rattle.definitions.specs.DocumentNodes.{tree_text}
+use Rattle.definitions.specs.Trees.{Tree, Leaf, Branch, forest}
 
 atom : Tree
 atom = Branch 2 (forest (Leaf (Rule 0) ∷ []))
