@@ -1,6 +1,9 @@
 pub mod Common
 pub mod Texts
 pub mod Results
+pub mod SumsRows
+pub mod SumTokenRows
+pub mod ReadingRows
 mod Trees
 mod EachReadingExists
 mod EachReadingIsUnique

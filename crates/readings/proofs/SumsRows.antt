@@ -231,6 +231,10 @@ no_front x fails v = no_sentence (x ++ v.0) (fails v.0) v.1
 
 -- ---- verdicts, and what may follow
 
+-- no kinds
+pub nothing_yet : IsVerdict sums [] FaultAtEnd
+nothing_yet = (no_sentence [] refl, (num ∷ [], (single, single_is)))
+
 -- `1 2`: nothing begins so
 pub two_numbers : IsVerdict sums (num ∷ num ∷ []) (FaultAt 1)
 two_numbers = (
@@ -291,6 +295,26 @@ second_of a b = Contains-later a (b ∷ []) b (Contains-first b [])
 ascending : (a b : ℕ) → a < b → IsStrictlyIncreasing (a ∷ b ∷ [])
 ascending a b l zero h = l
 ascending a b l (suc k) h = absurd (omega (arith, h))
+
+-- at first: a number or a parenthesis, and not the end
+pub at_first : IsExpected sums [] (0 ∷ 2 ∷ []) false
+at_first = record {
+  in_order = ascending 0 2 (omega arith);
+  each = λ a. ((λ c. may a (either 0 2 a c)), (λ v. must a v.0 (sentence_goes_on (Token a ∷ v.0) v.1)));
+  ends = ((λ e. absurd (cc e)), (λ s. absurd (nothing_yet.0 s)));
+}
+  where
+    may : (a : ℕ) → (0 ≡ a) ⊎ (2 ≡ a) → IsViable sums (Token a ∷ [])
+    may a (inl e) = subst (λ n. IsViable sums (Token n ∷ [])) e ([], (single, single_is))
+    may a (inr e) = subst (λ n. IsViable sums (Token n ∷ [])) e
+        (num ∷ right ∷ [], (nested single, record { root = nested_is single single_is.root; kinds = refl }))
+
+    must : (a : ℕ) (rest : List Kind) → goes_on (Token a ∷ rest) true 0 ≡ true → Contains (0 ∷ 2 ∷ []) a
+    must zero rest e = first_of 0 2
+    must (suc zero) rest e = absurd (cc e)
+    must (suc (suc zero)) rest e = second_of 0 2
+    must (suc (suc (suc zero))) rest e = absurd (cc e)
+    must (suc (suc (suc (suc a)))) rest e = absurd (cc e)
 
 -- after a number: a plus, or the end
 pub after_number : IsExpected sums (num ∷ []) (1 ∷ []) true

@@ -8,4 +8,6 @@ pub mod Totals
 mod Fresh
 mod Alone
 mod Histories
-mod SessionRows
+pub mod SessionRows
+pub mod AloneRows
+pub mod FreshRows
