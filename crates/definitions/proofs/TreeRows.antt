@@ -79,3 +79,32 @@ after (inr h) = omega (arith, h.2)
 no_kinds : ¬ IsTouched (record { from = 1; to = 1; kinds = [] }) 0 3
 no_kinds (inl h) = omega (arith, h.3, h.4)
 no_kinds (inr h) = h.1 refl
+
+-- ---- where kinds move to, and what isn't kept or built
+
+moves_back : IsMoved (record { from = 1; to = 3; kinds = Rule 1 ∷ [] }) 3 2
+moves_back = inr (omega arith, refl)
+
+gives_way : ¬ IsMoved (record { from = 1; to = 3; kinds = Rule 1 ∷ [] }) 2 2
+gives_way (inl h) = omega (arith, h.0)
+gives_way (inr h) = omega (arith, h.0)
+
+elsewhere : ¬ IsMoved put_in 0 1
+elsewhere (inl h) = omega (arith, h.1)
+elsewhere (inr h) = omega (arith, h.0)
+
+holds_what_gives_way : IsTouched put_in 3 5
+holds_what_gives_way = inl (4, omega arith, omega arith, omega arith, omega arith)
+
+-- a node without kinds is never kept
+empty_is_built : (old : List Tree) (place p : ℕ) → ¬ IsKept put_in old place p Nil
+empty_is_built old place p k = omega (arith, k.not_empty)
+
+built_is_none : (s : Splice) (old : List Tree) (place n : ℕ) (ts : List Tree) → ts ≡ [] → Built s old place ts n → n ≡ 0
+built_is_none s old place n ts none Nothing = refl
+built_is_none s old place n ts none (Token b) = absurd (cc none)
+built_is_none s old place n ts none (Kept k b) = absurd (cc none)
+built_is_none s old place n ts none (New k b c) = absurd (cc none)
+
+one_of_none : ¬ Built put_in old 0 [] 1
+one_of_none b = absurd (cc (built_is_none put_in old 0 1 [] refl b))

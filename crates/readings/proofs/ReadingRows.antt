@@ -30,7 +30,7 @@ use Rattle.readings.proofs.SumsRows.{two_numbers, twice_opened, opened_sum, one_
 use Rattle.readings.proofs.SumsRows.{number_settles, opened_settles, sum_settles, plus_settles, none_settled}
 use Rattle.readings.proofs.SumTokenRows.{InMemory, patterns, token, invalid, one_digit, last_digit, a_plus_token, a_left_token, a_right_token, a_blank_token, an_invalid_token}
 
-abbrev from_to : ℕ → ℕ → ℕ → ℕ → Range
+abbrev pub from_to : ℕ → ℕ → ℕ → ℕ → Range
 from_to l c m d = record { start = record { line = l; character = c }; end = record { line = m; character = d } }
 
 -- ---- the nodes of trees of sums
@@ -209,13 +209,13 @@ module _ (at : InMemory) where
 
   -- ---- `1+2`: its tokens, its tree, and no fault
 
-  abbrev sum_reading : Reading
+  abbrev pub sum_reading : Reading
   sum_reading = record { tokens = tokens_of (0 ∷ 1 ∷ 0 ∷ []); verdict = HasTree double; trees = double ∷ [] }
 
   sum_tokens : AreTokens (patterns at) (codes "1+2") sum_reading.tokens
   sum_tokens = (one_digit at 49 43 (codes "2") (omega arith) (omega arith) refl refl, (a_plus_token at (codes "2"), (last_digit at 50 (omega arith) (omega arith) refl, refl)))
 
-  sum_is_read : IsReading file (codes "1+2") sum_reading
+  pub sum_is_read : IsReading file (codes "1+2") sum_reading
   sum_is_read = record { tokens = sum_tokens; verdict = double_is; trees = refl }
 
   sum_rows : rows Utf16 file (codes "1+2") sum_reading.tokens ≡ row (codes "NUM") 0 1 ∷ row (codes "PLUS") 1 2 ∷ row (codes "NUM") 2 3 ∷ []
@@ -235,10 +235,10 @@ module _ (at : InMemory) where
 
   -- ---- `1 2`: the fault in the middle
 
-  abbrev two_reading : Reading
+  abbrev pub two_reading : Reading
   two_reading = record { tokens = tokens_of (0 ∷ 4 ∷ 0 ∷ []); verdict = FaultAt 1; trees = [] }
 
-  two_are_read : IsReading file (codes "1 2") two_reading
+  pub two_are_read : IsReading file (codes "1 2") two_reading
   two_are_read = record {
     tokens = (one_digit at 49 32 (codes "2") (omega arith) (omega arith) refl refl, (a_blank_token at 32 50 [] (omega arith) refl refl refl, (last_digit at 50 (omega arith) (omega arith) refl, refl)));
     verdict = two_numbers;
@@ -286,16 +286,16 @@ module _ (at : InMemory) where
 
   -- ---- folds: two pairs of parentheses over five lines
 
-  abbrev lines : List ℕ
+  abbrev pub lines : List ℕ
   lines = codes "(\n(\n1\n)\n)"
 
   abbrev lines_tree : Tree
   lines_tree = nested (nested single)
 
-  abbrev lines_reading : Reading
+  abbrev pub lines_reading : Reading
   lines_reading = record { tokens = tokens_of (2 ∷ 4 ∷ 2 ∷ 4 ∷ 0 ∷ 4 ∷ 3 ∷ 4 ∷ 3 ∷ []); verdict = HasTree lines_tree; trees = lines_tree ∷ [] }
 
-  lines_are_read : IsReading file lines lines_reading
+  pub lines_are_read : IsReading file lines lines_reading
   lines_are_read = record {
     tokens = (
       a_left_token at (codes "\n(\n1\n)\n)"),
@@ -339,7 +339,7 @@ module _ (at : InMemory) where
   IsFold p = (n : Node) × IsNodeOf sums (lines_tree ∷ []) n × IsTrue (slice_index_or file.folds n.symbol false)
       × SpansLines lines (placed_parts file lines_reading.tokens) n p
 
-  two_pairs : AreFoldsOf file lines lines_reading.tokens lines_reading.trees ((0, 4) ∷ (1, 3) ∷ [])
+  pub two_pairs : AreFoldsOf file lines lines_reading.tokens lines_reading.trees ((0, 4) ∷ (1, 3) ∷ [])
   unfolding line_of break_ends
   two_pairs = record { ascending = ascending; only = λ p c. from p (Contains-cases (0, 4) ((1, 3) ∷ []) p c); all = λ n p is. each n is p }
     where
@@ -380,10 +380,10 @@ module _ (at : InMemory) where
 
   -- ---- `1+2+`: a fault at the end, and selections in what is settled
 
-  abbrev plus_reading : Reading
+  abbrev pub plus_reading : Reading
   plus_reading = record { tokens = tokens_of (0 ∷ 1 ∷ 0 ∷ 1 ∷ []); verdict = FaultAtEnd; trees = double ∷ [] }
 
-  plus_is_read : IsReading file (codes "1+2+") plus_reading
+  pub plus_is_read : IsReading file (codes "1+2+") plus_reading
   plus_is_read = record {
     tokens = (one_digit at 49 43 (codes "2+") (omega arith) (omega arith) refl refl, (a_plus_token at (codes "2+"), (one_digit at 50 43 [] (omega arith) (omega arith) refl refl, (a_plus_token at [], refl))));
     verdict = one_more;
@@ -407,7 +407,7 @@ module _ (at : InMemory) where
   abbrev IsInner : ℕ × ℕ → Type 0
   IsInner r = (r ≢ (0, 4)) × (n : Node) × IsNodeOf sums (double ∷ []) n × Covers parts 2 n × (r ≡ span parts n)
 
-  three_deep : IsSelectionOf Utf16 file (codes "1+2+") plus_reading.tokens plus_reading.trees 2 (from_to 0 2 0 3 ∷ from_to 0 0 0 3 ∷ from_to 0 0 0 4 ∷ [])
+  pub three_deep : IsSelectionOf Utf16 file (codes "1+2+") plus_reading.tokens plus_reading.trees 2 (from_to 0 2 0 3 ∷ from_to 0 0 0 3 ∷ from_to 0 0 0 4 ∷ [])
   unfolding position line_of line_start line_from break_ends units
   three_deep = (
     (0, 4) ∷ (0, 3) ∷ (2, 3) ∷ [],
@@ -446,7 +446,7 @@ module _ (at : InMemory) where
   None_covers n = Covers parts 4 n → span parts n ≢ (0, 4) → Contains [] (span parts n)
 
   -- the end of the text is in the whole text alone
-  at_end : IsSelectionOf Utf16 file (codes "1+2+") plus_reading.tokens plus_reading.trees 4 (from_to 0 0 0 4 ∷ [])
+  pub at_end : IsSelectionOf Utf16 file (codes "1+2+") plus_reading.tokens plus_reading.trees 4 (from_to 0 0 0 4 ∷ [])
   unfolding position line_of line_start line_from break_ends units
   at_end = ((0, 4) ∷ [], ([], record { nested = λ i j d l m. absurd (omega (arith, l, m)); only = λ r c. absurd (Contains-none r c); all = λ n is. each n is }, refl), refl)
     where
@@ -460,7 +460,7 @@ module _ (at : InMemory) where
   abbrev place : ℕ → Position
   place c = record { line = 0; character = c }
 
-  selections : Reads file (codes "1+2+") (λ reading. AreSelections Utf16 file (codes "1+2+") reading (place 2 ∷ place 4 ∷ [])
+  pub selections : Reads file (codes "1+2+") (λ reading. AreSelections Utf16 file (codes "1+2+") reading (place 2 ∷ place 4 ∷ [])
       ((from_to 0 2 0 3 ∷ from_to 0 0 0 3 ∷ from_to 0 0 0 4 ∷ []) ∷ (from_to 0 0 0 4 ∷ []) ∷ []))
   unfolding offset line_start line_from break_ends units greatest
   selections = (plus_reading, plus_is_read, (_, _, refl, three_deep, (_, _, refl, at_end, refl)))
@@ -470,13 +470,13 @@ module _ (at : InMemory) where
 
   -- ---- edits, and the counts after them
 
-  abbrev made : ℕ → ℕ → ℕ → LastEdit
+  abbrev pub made : ℕ → ℕ → ℕ → LastEdit
   made n scanned built = record { number = n; scanned = scanned; built = built }
 
-  abbrev document : List ℕ → Option LastEdit → OpenDocument
+  abbrev pub document : List ℕ → Option LastEdit → OpenDocument
   document text last = record { unit = Utf16; version = pos 2; text = text; last = last }
 
-  abbrev counts : ℕ → ℕ → ℕ → ℕ → ℕ → ℕ → Stats
+  abbrev pub counts : ℕ → ℕ → ℕ → ℕ → ℕ → ℕ → Stats
   counts edit scanned tokens branches built nodes =
       record { edit = edit; scanned = scanned; tokens = tokens; branches = branches; built = built; nodes = nodes }
 
@@ -509,7 +509,7 @@ module _ (at : InMemory) where
   opened_counts = record { reading = sum_reading; is = sum_is_read; tokens = refl; branches = refl; last = (refl, refl, refl); nodes = omega arith }
 
   -- from a text without a fault to another one
-  appended : IsNext Utf16 file (codes "1+2+3") (Some (from_to 0 5 0 5)) (codes "+4") None (made 1 3 4)
+  pub appended : IsNext Utf16 file (codes "1+2+3") (Some (from_to 0 5 0 5)) (codes "+4") None (made 1 3 4)
   unfolding changed offset line_start line_from break_ends units greatest
   appended = record {
     old = triple_reading;
@@ -519,11 +519,11 @@ module _ (at : InMemory) where
     makes = record { number = refl; scanned = refl; built = λ above. four_built; all_built = λ not. absurd (not (omega arith)) };
   }
 
-  appended_counts : AreStats file (document (codes "1+2+3+4") (Some (made 1 3 4))) (counts 1 3 7 8 4 1_040)
+  pub appended_counts : AreStats file (document (codes "1+2+3+4") (Some (made 1 3 4))) (counts 1 3 7 8 4 1_040)
   appended_counts = record { reading = longer_reading; is = longer_is_read; tokens = refl; branches = refl; last = (refl, refl, refl); nodes = omega arith }
 
   -- one node more in memory is too many
-  one_node_more : AreStats file (document (codes "1+2+3+4") (Some (made 1 3 4))) (counts 1 3 7 8 4 1_041) → ⊥
+  pub one_node_more : AreStats file (document (codes "1+2+3+4") (Some (made 1 3 4))) (counts 1 3 7 8 4 1_041) → ⊥
   one_node_more s = omega (arith, s.nodes)
 
   another_edit : AreStats file (document (codes "1+2+3+4") (Some (made 1 3 4))) (counts 2 3 7 8 4 1_040) → ⊥

@@ -11,3 +11,4 @@ mod Histories
 pub mod SessionRows
 pub mod AloneRows
 pub mod FreshRows
+pub mod StepRows
