@@ -69,6 +69,11 @@ tokens : sent (tokens_reply one ((codes "invalid", at 0 0 0 2) ∷ (codes "NUM",
 unfolding digits escape_byte
 tokens = refl
 
+-- over two lines, where each end has its own
+tokens_of_two_lines : sent (tokens_reply one ((codes "WS", at 0 3 1 4) ∷ [])) ≡ codes "{\"id\":1,\"jsonrpc\":\"2.0\",\"result\":[[\"WS\",0,3,1,4]]}"
+unfolding digits escape_byte
+tokens_of_two_lines = refl
+
 no_tokens : sent (tokens_reply one []) ≡ codes "{\"id\":1,\"jsonrpc\":\"2.0\",\"result\":[]}"
 unfolding digits escape_byte
 no_tokens = refl
@@ -94,6 +99,11 @@ selections : sent (selections_reply one ((at 0 0 0 1 ∷ at 0 0 0 3 ∷ []) ∷ 
     ≡ codes "{\"id\":1,\"jsonrpc\":\"2.0\",\"result\":[{\"parent\":{\"range\":{\"end\":{\"character\":3,\"line\":0},\"start\":{\"character\":0,\"line\":0}}},\"range\":{\"end\":{\"character\":1,\"line\":0},\"start\":{\"character\":0,\"line\":0}}},null]}"
 unfolding digits escape_byte
 selections = refl
+
+selection_of_two_lines : sent (selections_reply one ((at 1 2 3 4 ∷ []) ∷ []))
+    ≡ codes "{\"id\":1,\"jsonrpc\":\"2.0\",\"result\":[{\"range\":{\"end\":{\"character\":4,\"line\":3},\"start\":{\"character\":2,\"line\":1}}}]}"
+unfolding digits escape_byte
+selection_of_two_lines = refl
 
 -- errors: each code with its text
 error_parseerror : sent (error_reply None refusal.ParseError) ≡ codes "{\"error\":{\"code\":-32700,\"message\":\"parse error\"},\"id\":null,\"jsonrpc\":\"2.0\"}"

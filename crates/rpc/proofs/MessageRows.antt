@@ -3,13 +3,14 @@ use Rattle.std.specs.Prelude.{◌≡◌, ℕ, pos, negsuc, List, [], ◌∷◌, 
 use Rattle.std.specs.Char.{encode_utf8}
 use Rattle.std.specs.Str.{chars, is_utf8}
 use Rattle.definitions.specs.declared.Position.{Position}
-use Rattle.definitions.specs.declared.Unit.TheVariants.{Utf16, Utf32}
+use Rattle.definitions.specs.declared.Unit.TheVariants.{Utf8, Utf16, Utf32}
 use Rattle.serde_json.proofs.OnLiterals.{serde_json_on_literals}
 use Rattle.replies.specs.Ids.{Ident, named, numbered}
 use Rattle.rpc.specs.Messages.{unread, refused, accepted, request, notification, ignored, invalid, unknown, params, initialize, shutdown}
 use Rattle.rpc.specs.Messages.{about, stats, its_text, its_tokens, its_tree, its_folds, its_selections, initialized, exit, open_text, change_text}
 use Rattle.rpc.specs.Messages.{close, malformed, unfit_open, unfit_change, unfit_close}
-use Rattle.rpc.specs.Reading.{received_in, Receives}
+use Rattle.rpc.specs.Fields.{fits_i32, fits_u31}
+use Rattle.rpc.specs.Reading.{received_in, unit_named, Receives}
 
 abbrev one : Ident
 one = numbered (pos 1)
@@ -208,3 +209,69 @@ closes = refl
 closes_malformed : received_in (codes "{\"jsonrpc\":\"2.0\",\"method\":\"textDocument/didClose\",\"params\":{}}") ≡ accepted (notification (malformed unfit_close))
 unfolding chars encode_utf8 is_utf8 serde_json_on_literals
 closes_malformed = refl
+
+-- ---- the names of units, and the limits of numbers
+
+initializes_with_utf8 : received_in (codes "{\"jsonrpc\":\"2.0\",\"id\":1,\"method\":\"initialize\",\"params\":{\"capabilities\":{\"general\":{\"positionEncodings\":[\"utf-8\",\"utf-16\"]}}}}") ≡ accepted (request one (initialize Utf8))
+unfolding chars encode_utf8 is_utf8 serde_json_on_literals
+initializes_with_utf8 = refl
+
+initializes_with_utf16 : received_in (codes "{\"jsonrpc\":\"2.0\",\"id\":1,\"method\":\"initialize\",\"params\":{\"capabilities\":{\"general\":{\"positionEncodings\":[\"utf-16\",\"utf-8\"]}}}}") ≡ accepted (request one (initialize Utf16))
+unfolding chars encode_utf8 is_utf8 serde_json_on_literals
+initializes_with_utf16 = refl
+
+unit_names : (unit_named (codes "utf-8") ≡ Some Utf8) × (unit_named (codes "utf-16") ≡ Some Utf16) × (unit_named (codes "utf-32") ≡ Some Utf32) × (unit_named (codes "utf8") ≡ None)
+unit_names = (refl, refl, refl, refl)
+
+integers : (fits_i32 (pos 2_147_483_647) ≡ Some (pos 2_147_483_647)) × (fits_i32 (pos 2_147_483_648) ≡ None) × (fits_i32 (negsuc 2_147_483_647) ≡ Some (negsuc 2_147_483_647))
+    × (fits_i32 (negsuc 2_147_483_648) ≡ None) × (fits_u31 2_147_483_647 ≡ Some 2_147_483_647) × (fits_u31 2_147_483_648 ≡ None)
+integers = (refl, refl, refl, refl, refl, refl)
+
+greatest_id : received_in (codes "{\"jsonrpc\":\"2.0\",\"id\":2147483647,\"method\":\"shutdown\"}") ≡ accepted (request (numbered (pos 2_147_483_647)) shutdown)
+unfolding chars encode_utf8 is_utf8 serde_json_on_literals
+greatest_id = refl
+
+farthest_position : received_in (codes "{\"jsonrpc\":\"2.0\",\"id\":1,\"method\":\"textDocument/selectionRange\",\"params\":{\"textDocument\":{\"uri\":\"a:x\"},\"positions\":[{\"line\":2147483647,\"character\":7}]}}") ≡ accepted (request one (about uri (its_selections (at 2_147_483_647 7 ∷ []))))
+unfolding chars encode_utf8 is_utf8 serde_json_on_literals
+farthest_position = refl
+
+negative_position : received_in (codes "{\"jsonrpc\":\"2.0\",\"id\":1,\"method\":\"textDocument/selectionRange\",\"params\":{\"textDocument\":{\"uri\":\"a:x\"},\"positions\":[{\"line\":-1,\"character\":7}]}}") ≡ refused (params one false)
+unfolding chars encode_utf8 is_utf8 serde_json_on_literals
+negative_position = refl
+
+-- a content that isn't UTF-8
+not_utf8 : received_in (123 ∷ 34 ∷ 255 ∷ 34 ∷ 125 ∷ []) ≡ unread
+unfolding chars encode_utf8 is_utf8 serde_json_on_literals
+not_utf8 = refl
+
+-- both a method and a result: no reply
+method_and_result : received_in (codes "{\"jsonrpc\":\"2.0\",\"id\":1,\"method\":\"shutdown\",\"result\":null}") ≡ accepted (request one shutdown)
+unfolding chars encode_utf8 is_utf8 serde_json_on_literals
+method_and_result = refl
+
+-- an id that is null can't be read, and a method that is no text is none
+null_id : received_in (codes "{\"jsonrpc\":\"2.0\",\"id\":null,\"method\":\"shutdown\"}") ≡ refused (invalid None)
+unfolding chars encode_utf8 is_utf8 serde_json_on_literals
+null_id = refl
+
+numbered_method : received_in (codes "{\"jsonrpc\":\"2.0\",\"id\":1,\"method\":5}") ≡ refused (invalid (Some one))
+unfolding chars encode_utf8 is_utf8 serde_json_on_literals
+numbered_method = refl
+
+-- of parameters that are a list `initialize` makes nothing
+list_of_parameters : received_in (codes "{\"jsonrpc\":\"2.0\",\"id\":1,\"method\":\"initialize\",\"params\":[]}") ≡ refused (params one true)
+unfolding chars encode_utf8 is_utf8 serde_json_on_literals
+list_of_parameters = refl
+
+opens_without_version : received_in (codes "{\"jsonrpc\":\"2.0\",\"method\":\"textDocument/didOpen\",\"params\":{\"textDocument\":{\"uri\":\"a:x\",\"text\":\"\"}}}") ≡ accepted (notification (malformed unfit_open))
+unfolding chars encode_utf8 is_utf8 serde_json_on_literals
+opens_without_version = refl
+
+change_without_text : received_in (codes "{\"jsonrpc\":\"2.0\",\"method\":\"textDocument/didChange\",\"params\":{\"textDocument\":{\"uri\":\"a:x\",\"version\":2},\"contentChanges\":[{}]}}") ≡ accepted (notification (malformed (unfit_change (Some uri))))
+unfolding chars encode_utf8 is_utf8 serde_json_on_literals
+change_without_text = refl
+
+-- a range from one line to another
+range_of_two_lines : received_in (codes "{\"jsonrpc\":\"2.0\",\"method\":\"textDocument/didChange\",\"params\":{\"textDocument\":{\"uri\":\"a:x\",\"version\":2},\"contentChanges\":[{\"range\":{\"start\":{\"line\":1,\"character\":2},\"end\":{\"line\":3,\"character\":4}},\"text\":\"\"}]}}") ≡ accepted (notification (change_text uri (pos 2) (record { range = Some (record { start = at 1 2; end = at 3 4 }); text = [] } ∷ [])))
+unfolding chars encode_utf8 is_utf8 serde_json_on_literals
+range_of_two_lines = refl

@@ -1,11 +1,11 @@
 -- The texts in what is received, and what is spelled in UTF-8.
-use Rattle.std.specs.Prelude.{◌≡◌, ℕ, pos, List, [], ◌∷◌, codes, refl, Some, None}
+use Rattle.std.specs.Prelude.{◌≡◌, ℕ, pos, List, [], ◌∷◌, codes, refl, Some, None, true, false}
 use Rattle.std.specs.Char.{encode_utf8}
 use Rattle.std.specs.Str.{chars}
 use Rattle.replies.specs.Ids.{named, numbered}
-use Rattle.rpc.specs.Messages.{unread, refused, accepted, request, notification, unknown, about, stats, its_text}
-use Rattle.rpc.specs.Messages.{open_text, change_text, close, malformed, unfit_open, unfit_change}
-use Rattle.rpc.specs.Texts.{texts_of, IsSpelled}
+use Rattle.rpc.specs.Messages.{unread, refused, accepted, request, notification, invalid, unknown, params, shutdown, ignored, about, stats, its_text}
+use Rattle.rpc.specs.Messages.{open_text, change_text, close, malformed, unfit_open, unfit_change, unfit_close, initialized, exit}
+use Rattle.rpc.specs.Texts.{id_texts, request_texts, notification_texts, texts_of, IsSpelled}
 
 abbrev uri : List ℕ
 uri = codes "a:x"
@@ -45,3 +45,32 @@ two_bytes = record { scalars = refl; same = refl }
 one_byte : IsSpelled (195 ∷ []) → ⊥
 unfolding chars encode_utf8
 one_byte s = let f : ⊥ = cc s.same in f
+
+-- the id of each refusal is a text of it
+misfit : texts_of (refused (params (named (codes "i")) false)) ≡ codes "i" ∷ []
+misfit = refl
+
+misfit_of_initialize : texts_of (refused (params (named (codes "i")) true)) ≡ codes "i" ∷ []
+misfit_of_initialize = refl
+
+invalid_request : texts_of (refused (invalid (Some (named (codes "i"))))) ≡ codes "i" ∷ []
+invalid_request = refl
+
+invalid_without_id : texts_of (refused (invalid None)) ≡ []
+invalid_without_id = refl
+
+ids : (id_texts (named (codes "i")) ≡ codes "i" ∷ []) × (id_texts (numbered (pos 1)) ≡ [])
+ids = (refl, refl)
+
+others : (request_texts shutdown ≡ []) × (notification_texts initialized ≡ []) × (notification_texts exit ≡ []) × (notification_texts (malformed unfit_close) ≡ [])
+    × (notification_texts (malformed (unfit_change None)) ≡ []) × (texts_of (accepted ignored) ≡ [])
+others = (refl, refl, refl, refl, refl, refl)
+
+-- a surrogate in three bytes is no scalar value; the empty text is spelled
+surrogate : IsSpelled (0xED ∷ 0xA0 ∷ 0x80 ∷ []) → ⊥
+unfolding chars encode_utf8
+surrogate s = absurd (cc s.scalars)
+
+none : IsSpelled []
+unfolding chars encode_utf8
+none = record { scalars = refl; same = refl }
