@@ -465,6 +465,12 @@ module _ (at : InMemory) where
   unfolding offset line_start line_from break_ends units greatest
   selections = (plus_reading, plus_is_read, (_, _, refl, three_deep, (_, _, refl, at_end, refl)))
 
+  no_position_no_selection : AreSelections Utf16 file (codes "1+2+") plus_reading [] ([] ∷ []) → ⊥
+  no_position_no_selection s = absurd (cc s)
+
+  no_position : AreSelections Utf16 file (codes "1+2+") plus_reading [] []
+  no_position = refl
+
   one_selection_less : AreSelections Utf16 file (codes "1+2+") plus_reading (place 2 ∷ []) [] → ⊥
   one_selection_less s = absurd (cc s.2)
 

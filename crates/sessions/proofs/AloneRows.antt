@@ -253,11 +253,11 @@ module _ (file : FileGrammar) where
   abbrev changes : Received
   changes = accepted (notification (change_text uri (pos 1) []))
 
-  opened_with_room : (old : Held) → has_room uri old ≡ true → (event_in uri (ready old) opens (ready old)).room ≡ true
-  opened_with_room old room = room
+  opened_with_room : (old after : Held) → has_room uri old ≡ true → (event_in uri (ready old) opens (ready after)).room ≡ true
+  opened_with_room old after room = room
 
-  opened_without_room : (old : Held) → has_room uri old ≡ false → (event_in uri (ready old) opens (ready old)).room ≡ false
-  opened_without_room old room = room
+  opened_without_room : (old after : Held) → has_room uri old ≡ false → (event_in uri (ready old) opens (ready after)).room ≡ false
+  opened_without_room old after room = room
 
   changed_without_room : (old : Held) → (event_in uri (ready old) changes (ready old)).room ≡ true
   changed_without_room old = refl

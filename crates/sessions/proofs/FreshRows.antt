@@ -1,7 +1,7 @@
 -- A session that opens the empty text as sums: what is published, what a fresh server says, and uses of the laws of freshness.
 use Rattle.std.specs.Char.{encode_utf8}
 use Rattle.std.specs.FinMap.{empty, get, insert, len, contains_key, get-empty, get-insert, len-empty}
-use Rattle.std.specs.Prelude.{◌≡◌, ◌≢◌, ◌⊎◌, ℕ, ℤ, pos, Bool, true, false, ◌||◌, nat_lt, List, [], ◌∷◌, ◌++◌, All, codes, refl, Option, Some, None, MatchOption, slice_index}
+use Rattle.std.specs.Prelude.{◌≡◌, ◌≢◌, ◌⊎◌, ℕ, ℤ, pos, Bool, true, false, ◌||◌, nat_lt, List, [], ◌∷◌, ◌++◌, length, All, codes, refl, Option, Some, None, MatchOption, slice_index}
 use Rattle.std.specs.Str.{chars, is_utf8}
 use Rattle.std.proofs.Common.{ap, arith, inl, inr, sym, subst, ◌∙◌}
 use Rattle.std.proofs.lemmas.Cmp.{nat_list_cmp_total}
@@ -181,6 +181,28 @@ module _ (patterns : List Expression) where
       let mid : f.mid ≡ ready empty = f.initializes.2 in
       let step = subst (λ s. Step s (accepted (notification (open_text uri (pos 1) f.bytes))) (p ∷ []) None (first_state file)) mid f.opens in
       absurd (cc (phase_kept (has_room uri empty) (new_document Utf16 (pos 1) (chars f.bytes)) (ready empty) (first_state file) (p ∷ []) None step))
+
+  abbrev length_of : Option DocumentState → ℕ
+  length_of (Some (is_open d)) = length d.text
+  length_of (Some (is_lost l)) = 0
+  length_of None = 0
+
+  abbrev two : OpenDocument
+  two = record { unit = Utf16; version = pos 1; text = codes "2"; last = None }
+
+  -- nor is this one fresh on another text
+  not_on_another_text : (p : Answer) → IsFresh file Utf16 uri (pos 1) (codes "2") p at_end → ⊥
+  unfolding encode_utf8
+  not_on_another_text p f =
+      let step = subst (λ s. Step s (accepted (notification (open_text uri (pos 1) f.bytes))) (p ∷ []) None at_end) f.initializes.2 f.opens in
+      let opens = subst (λ b. Opens b (ready empty) uri (new_document Utf16 (pos 1) (chars f.bytes)) (p ∷ []) None at_end) (room empty (len-empty _ _)) step in
+      let holds_two : Holds (ready empty) uri (is_open two) (p ∷ []) None at_end =
+          subst (λ t. Opens true (ready empty) uri (new_document Utf16 (pos 1) t) (p ∷ []) None at_end) f.spelled opens in
+      let same : insert empty uri (is_open no_text) ≡ insert empty uri (is_open two) = ap (λ (s : State). s.documents) holds_two.3.1 in
+      let found = sym (get-insert nat_list_cmp_total empty uri (is_open no_text) uri) ∙ ap (λ (d : Held). get d uri) same
+          ∙ get-insert nat_list_cmp_total empty uri (is_open two) uri in
+      let lengths : 0 ≡ 1 = ap length_of found in
+      omega (arith, lengths)
 
   -- ---- what the laws say
 

@@ -6,7 +6,7 @@ use Rattle.std.specs.Char.{encode_utf8}
 use Rattle.std.specs.FinMap.{empty, get, insert, remove, len}
 use Rattle.std.specs.Fmt.{digits}
 use Rattle.std.specs.Str.{chars, is_utf8}
-use Rattle.frames.specs.Frames.{Open, Faulty}
+use Rattle.frames.specs.Frames.{Open, Faulty, Splits, start_of}
 use Rattle.frames.specs.declared.fault.FrameFault.TheVariants.{BadField, Truncated}
 use Rattle.sessions.specs.declared.fault.RunFault.TheVariants.{Frame, Read, Write}
 use Rattle.definitions.specs.Text.{changed, offset, line_start, line_from, break_ends, units, greatest}
@@ -320,6 +320,12 @@ module _ (file : FileGrammar) where
   unfolding chars encode_utf8 is_utf8 serde_json_on_literals
   stops = ([], Some 1, first_state file, (refl, refl, refl), (refl, refl, refl))
 
+  -- `exit` stops a run
+  stops_so : Run (first_state file) (codes "{\"jsonrpc\":\"2.0\",\"method\":\"exit\"}" ∷ []) [] None (first_state file) → ⊥
+  unfolding chars encode_utf8 is_utf8 serde_json_on_literals
+  stops_so (first, None, mid, step, more) = absurd (cc step.1)
+  stops_so (first, Some status, mid, step, end) = absurd (cc end.1)
+
   runs_on : Run (first_state file) [] (null_reply one ∷ []) None (first_state file) → ⊥
   runs_on r = let f : ⊥ = cc r.0 in f
 
@@ -387,6 +393,53 @@ no_json_session file =
       written = refl;
       ends = inr (refl, refl, refl, refl);
     }
+
+-- `initialize` alone: the session begins in the first state, and ends in another one
+abbrev initialize_alone : List ℕ
+initialize_alone = codes "Content-Length: 58\r\n\r\n{\"jsonrpc\":\"2.0\",\"id\":1,\"method\":\"initialize\",\"params\":{}}"
+
+abbrev capabilities : List ℕ
+capabilities = codes "Content-Length: 187\r\n\r\n{\"id\":1,\"jsonrpc\":\"2.0\",\"result\":{\"capabilities\":{\"foldingRangeProvider\":true,\"positionEncoding\":\"utf-16\",\"selectionRangeProvider\":true,\"textDocumentSync\":{\"change\":2,\"openClose\":true}}}}"
+
+initialized_session : (file : FileGrammar) → Session file (Some initialize_alone) (Some []) (Some []) (Some capabilities) (Ok 1)
+unfolding chars encode_utf8 is_utf8 serde_json_on_literals digits escape_byte
+initialized_session file =
+    record {
+      bytes = initialize_alone;
+      contents = codes "{\"jsonrpc\":\"2.0\",\"id\":1,\"method\":\"initialize\",\"params\":{}}" ∷ [];
+      tail = Open [];
+      answers = capabilities_reply one Utf16 ∷ [];
+      stop = None;
+      after = record { file = file; phase = Ready Utf16; documents = empty };
+      was_read = refl;
+      split = (22, record { header = refl; follows = refl }, (refl, tt));
+      run = (
+        capabilities_reply one Utf16 ∷ [],
+        None,
+        record { file = file; phase = Ready Utf16; documents = empty },
+        (refl, refl, refl),
+        ([], refl, (refl, refl, refl)),
+      );
+      written = refl;
+      ends = inr (refl, refl, refl, refl);
+    }
+
+-- no session ends with status 0 over a stream without a frame, nor writes over it
+no_session : (file : FileGrammar) → Session file (Some []) (Some []) (Some []) (Some []) (Ok 0) → ⊥
+no_session file s = by s.contents s.split s.run s.ends
+  where
+    empty_is : s.bytes ≡ []
+    empty_is = by_bytes s.bytes s.was_read
+      where
+        by_bytes : (bytes : List ℕ) → [] ≡ bytes ++ [] → bytes ≡ []
+        by_bytes [] e = refl
+        by_bytes (b ∷ bytes) e = absurd (cc e)
+
+    by : (contents : List (List ℕ)) → Splits s.bytes contents s.tail → Run (first_state file) contents s.answers s.stop s.after
+        → Ends (Ok 0) (Some []) s.tail s.stop → ⊥
+    by [] split run (inl e) = absurd (cc (sym e ∙ run.1))
+    by [] split run (inr e) = absurd (cc e.3)
+    by (content ∷ contents) split run ends = absurd (cc (ap start_of (sym empty_is) ∙ split.1.header))
 
 -- ---- two states that look alike, and what a document is told
 

@@ -21,12 +21,12 @@ use Rattle.readings.specs.Texts.{LastEdit, OpenDocument}
 use Rattle.rpc.specs.Ids.{Ident, numbered}
 use Rattle.rpc.specs.Log.TheVariants as log
 use Rattle.rpc.specs.Loss.TheVariants as loss
-use Rattle.rpc.specs.Messages.{TextChange, Received, about, stats, its_text, its_tokens, its_tree, its_folds, its_selections, request, notification, accepted, unknown, params, refused, close}
+use Rattle.rpc.specs.Messages.{TextChange, Received, about, stats, its_text, its_tokens, its_tree, its_folds, its_selections, request, notification, open_text, unfit_change, accepted, invalid, unknown, params, refused}
 use Rattle.rpc.specs.Refusal.TheVariants as refusal
 use Rattle.rpc.specs.Replies.{Answer, null_reply, text_reply, tokens_reply, tree_reply, stats_reply, folds_reply, selections_reply, error_reply, published_diagnostics, log_message}
 use Rattle.rpc.specs.Unit.TheVariants.{Utf8, Utf16}
 use Rattle.sessions.specs.Answers.{tree_answer, IsAnswerOf, IsAnswer, IsCount, shown}
-use Rattle.sessions.specs.Documents.{DocumentState, is_open, is_lost, Held, edited, IsLastAfter, Becomes}
+use Rattle.sessions.specs.Documents.{DocumentState, is_open, is_lost, Held, edited, IsLastAfter, Becomes, has_room}
 use Rattle.sessions.specs.Sessions.{AppendsPrefix, IsWritten, Ends}
 use Rattle.sessions.specs.Steps.{State, first_state, Replies, RepliesSome, Enters, Ignores, Logs, Leaves, Holds, Forgets, Stops, OnRequest, new_document, Opens, Changes, Closes, Spoils, OnMalformed, OnNotification, Step}
 use Rattle.sessions.specs.declared.fault.RunFault.TheVariants.{Frame, Read, Write, Memory}
@@ -123,6 +123,23 @@ module _ (file : FileGrammar) where
   text_of_none : OnRequest (Ready Utf16) (at (Ready Utf16)) one (about uri its_text) (null_reply one ∷ []) None (at (Ready Utf16)) → ⊥
   text_of_none (answer, is, r) =
       absurd (cc (r.0 ∙ ap (λ a. a ∷ []) (subst (λ d. IsAnswer file one d its_text answer) (get-empty _ uri) is)))
+
+  invalid_with_its_id : Step (at Down) (refused (invalid (Some one))) (error_reply (Some one) refusal.InvalidRequest ∷ []) None (at Down)
+  invalid_with_its_id = (refl, refl, refl)
+
+  lost_counts : IsCount file one (Some (is_lost loss.TooLarge)) (error_reply (Some one) (refusal.DocumentLost loss.TooLarge))
+  lost_counts = refl
+
+  spoils_none : OnMalformed (at (Ready Utf16)) (unfit_change (Some uri)) (log_message log.ChangeNotOpen ∷ []) None (at (Ready Utf16))
+  spoils_none = subst (λ d. Spoils d (at (Ready Utf16)) uri (log_message log.ChangeNotOpen ∷ []) None (at (Ready Utf16))) (sym (get-empty _ uri)) (refl, refl, refl)
+
+  abbrev ready : Held → State
+  ready documents = record { file = file; phase = Ready Utf16; documents = documents }
+
+  finds_no_room : (documents : Held) → has_room uri documents ≡ false
+      → Step (ready documents) (accepted (notification (open_text uri (pos 1) []))) (log_message log.TooManyDocuments ∷ []) None (ready documents)
+  finds_no_room documents none =
+      subst (λ b. Opens b (ready documents) uri (new_document Utf16 (pos 1) (chars [])) (log_message log.TooManyDocuments ∷ []) None (ready documents)) (sym none) (refl, refl, refl)
 
   -- ---- losses and closing
 
@@ -227,6 +244,11 @@ opened_too_large = refl
 unfit_on_the_way : edited Utf16 [] (record { range = None; text = 0xED ∷ 0xA0 ∷ 0x80 ∷ [] } ∷ record { range = None; text = codes "3" } ∷ []) ≡ None
 unfolding chars encode_utf8 changed
 unfit_on_the_way = refl
+
+-- the whole text has to fit, and not the piece alone
+unfit_before : edited Utf16 (0xD800 ∷ []) (record { range = Some (from_to 0 0 0 0); text = codes "3" } ∷ []) ≡ None
+unfolding chars encode_utf8 changed offset line_start line_from break_ends units greatest
+unfit_before = refl
 
 -- ---- answers about an open text of sums
 
