@@ -9,10 +9,10 @@ use Rattle.definitions.specs.declared.expression.Interval.{Interval}
 use Rattle.definitions.specs.declared.expression.PatternCause.TheVariants.{MatchesEmpty}
 use Rattle.definitions.specs.declared.Kind.TheVariants.{Rule, Invalid}
 use Rattle.definitions.specs.PatternFaults.{first_fault, IsFault}
-use Rattle.definitions.specs.Patterns.{Matches, is_in_class, is_member, is_within}
+use Rattle.definitions.specs.Patterns.{Matches, IsPrefix, IsJoin, IsNonemptyJoin, is_in_class, is_member, is_within}
 use Rattle.definitions.specs.PatternText.{Plain}
 use Rattle.definitions.specs.Spelling.{Address, Spells, SpellsAt, IsPattern, Atom, class, plus, star, one_seq, one_rep}
-use Rattle.definitions.specs.Tokens.{RuleMatches, IsRulePrefix, IsPiece, IsDead, IsReach, Token, AreTokens}
+use Rattle.definitions.specs.Tokens.{RuleMatches, IsRulePrefix, IsLongest, IsPiece, IsDead, IsReach, IsToken, Token, AreTokens}
 
 -- wherever its parts lie in memory
 module _ (p : Address) (v : Vec Interval Global) (digits : v.items ≡ record { first = 48; last = 57 } ∷ []) where
@@ -120,10 +120,22 @@ module _ (p : Address) (v : Vec Interval Global) (digits : v.items ≡ record { 
   not_longer : ¬ IsPiece rules (codes "12") (Rule 0) 3
   not_longer h = omega (arith, h.inside)
 
+  longest : IsLongest rules (codes "12") 0 2
+  longest = record { nonempty = omega arith; inside = omega arith; matches = twelve; longest = λ j m l h. l; earliest = λ j h. omega arith }
+
+  not_longest : IsLongest rules (codes "12") 0 1 → ⊥
+  not_longest h = omega (arith, h.longest 0 2 (omega arith) twelve)
+
+  reads_the_end : IsReach rules (codes "12") 3
+  reads_the_end = inr (refl, not_dead)
+
   -- what reads past the token's own characters is told
   short_reach : ¬ IsReach rules (codes "12") 2
   short_reach (inl d) = not_dead 2 d.0
   short_reach (inr d) = omega (arith, d.0)
+
+  not_its_token : IsToken rules (codes "12") (record { kind = Rule 0; length = 2; reach = 2 }) → ⊥
+  not_its_token h = short_reach h.reach
 
   -- a number begins a number, and a sign doesn't
   begins : IsRulePrefix rules (codes "1")
@@ -220,3 +232,25 @@ module _ (p q : Address) (x y : Vec ℕ Global) (x_is : x.items ≡ codes "a") (
   not_none : ¬ Matches (Plus' p (Literal x)) []
   not_none ([], nonempty, all, is) = nonempty refl
   not_none (part ∷ parts, nonempty, all, is) = absurd (cc (is ∙ ap (λ l. l ++ concat parts) (all.0 ∙ x_is)))
+
+  -- `b` begins no text of `"a"`, and nothing begins each
+  b_begins_none : IsPrefix (Literal x) (codes "b") → ⊥
+  b_begins_none (rest, m) = omega (arith, ap (λ l. slice_index l 0) (m ∙ x_is))
+
+  nothing_begins_it : IsPrefix (Literal x) []
+  nothing_begins_it = (codes "a", is_a)
+
+-- `aa` is `a` twice, and `ab` isn't; no text is none of them
+twice : IsJoin (λ t. t ≡ codes "a") (codes "aa")
+twice = (codes "a" ∷ codes "a" ∷ [], (refl, (refl, tt)), refl)
+
+no_other_join : IsJoin (λ t. t ≡ codes "a") (codes "b") → ⊥
+no_other_join ([], all, is) = absurd (cc is)
+no_other_join (part ∷ parts, all, is) = omega (arith, ap (λ l. slice_index l 0) (is ∙ ap (λ l. l ++ concat parts) all.0))
+
+once : IsNonemptyJoin (λ t. t ≡ codes "a") (codes "a")
+once = (codes "a" ∷ [], (λ e. absurd (cc e)), (refl, tt), refl)
+
+never : IsNonemptyJoin (λ t. t ≡ codes "a") [] → ⊥
+never ([], nonempty, all, is) = nonempty refl
+never (part ∷ parts, nonempty, all, is) = absurd (cc (is ∙ ap (λ l. l ++ concat parts) all.0))

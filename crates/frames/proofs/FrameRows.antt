@@ -94,6 +94,9 @@ two = (21, record { header = refl; follows = refl }, (21, record { header = refl
 exchanged : Splits two_frames (codes "[]" ∷ codes "{" ∷ []) (Faulty BadField) → ⊥
 exchanged (size, first, rest) = absurd (cc first.header)
 
+begins_with : BeginsWith one_byte (codes "{") 21
+begins_with = record { header = refl; follows = refl }
+
 another_content : BeginsWith one_byte (codes "[") 21 → ⊥
 another_content b = omega (arith, ap (λ l. slice_index l 0) b.follows)
 
@@ -201,3 +204,9 @@ written_empty = refl
 written_long : frame (codes "0123456789") ≡ codes "Content-Length: 10\r\n\r\n0123456789"
 unfolding digits
 written_long = refl
+
+a_rest : IsTail two_of_five (Open two_of_five)
+a_rest = cut
+
+a_fault : IsTail (codes "X\r\n\r\n") (Faulty BadField)
+a_fault = refl

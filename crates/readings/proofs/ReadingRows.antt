@@ -21,7 +21,7 @@ use Rattle.definitions.specs.Trees.{HasProduction, Production, Tree, Forest, Lea
 use Rattle.grammar.specs.Grammars.{FileGrammar}
 use Rattle.readings.specs.Answers.{Reading, IsReading, Reads, rows, written_tree, AreSelections}
 use Rattle.readings.specs.Contents.{AreFoldsOf, IsSelectionOf, placed_parts}
-use Rattle.readings.specs.Diagnostics.{IsDiagnosis, looks}
+use Rattle.readings.specs.Diagnostics.{IsDiagnosis, IsFaultAfter, looks}
 use Rattle.readings.specs.Edits.{IsAbove, Makes, IsNext, ReportsLast, AreStats, number_of, number_after, edit_of, without_nodes}
 use Rattle.readings.specs.Texts.{LastEdit, OpenDocument, fits}
 use Rattle.definitions.proofs.Ordered.{Contains-first, Contains-later, Contains-none, Contains-cases}
@@ -250,6 +250,20 @@ module _ (at : InMemory) where
   unfolding message position line_of line_start line_from break_ends units
   two_fault = (two_reading, two_are_read, (1 ∷ [], true, after_number, refl))
 
+  fault_after_number : IsFaultAfter Utf16 file (codes "1 2") two_reading.tokens (num ∷ []) (Some (record { range = from_to 0 2 0 3; message = codes "unexpected NUM; expected PLUS, end" }))
+  unfolding message position line_of line_start line_from break_ends units
+  fault_after_number = (1 ∷ [], true, after_number, refl)
+
+  no_fault_after_number : IsFaultAfter Utf16 file (codes "1 2") two_reading.tokens (num ∷ []) None → ⊥
+  no_fault_after_number f = absurd (cc f.3)
+
+  -- it is no text with a tree, and has no reading of which nothing holds
+  another_verdict : (trees : List Tree) → IsReading file (codes "1+2") (record { tokens = sum_reading.tokens; verdict = FaultAtEnd; trees = trees }) → ⊥
+  another_verdict trees r = r.verdict.0 (double, double_is)
+
+  reads_nothing : Reads file (codes "1+2") (λ reading. ⊥) → ⊥
+  reads_nothing r = r.2
+
   two_have_no_tree : Reads file (codes "1 2") (λ reading. written_tree file reading.verdict ≡ None)
   two_have_no_tree = (two_reading, two_are_read, refl)
 
@@ -377,6 +391,11 @@ module _ (at : InMemory) where
       by : IsBefore (1, 3) (0, 4) → ⊥
       by (inl l) = omega (arith, l)
       by (inr l) = omega (arith, l.0)
+
+  -- at the plus no node begins
+  no_node_at_the_plus : (n : Node) → n.from ≡ 1 → IsNodeOf sums (double ∷ []) n → ⊥
+  no_node_at_the_plus n at_plus is = each_node (λ m. m.from ≡ 1 → ⊥) (double ∷ [])
+      (((λ e. omega (arith, e)), (((λ e. omega (arith, e)), (((λ e. omega (arith, e)), (tt, tt)), tt)), (tt, (((λ e. omega (arith, e)), (tt, tt)), tt)))), tt) n is at_plus
 
   -- ---- `1+2+`: a fault at the end, and selections in what is settled
 
@@ -527,6 +546,9 @@ module _ (at : InMemory) where
 
   pub appended_counts : AreStats file (document (codes "1+2+3+4") (Some (made 1 3 4))) (counts 1 3 7 8 4 1_040)
   appended_counts = record { reading = longer_reading; is = longer_is_read; tokens = refl; branches = refl; last = (refl, refl, refl); nodes = omega arith }
+
+  another_next_number : IsNext Utf16 file (codes "1+2+3") (Some (from_to 0 5 0 5)) (codes "+4") None (made 2 3 4) → ⊥
+  another_next_number n = omega (arith, n.makes.number)
 
   -- one node more in memory is too many
   pub one_node_more : AreStats file (document (codes "1+2+3+4") (Some (made 1 3 4))) (counts 1 3 7 8 4 1_041) → ⊥

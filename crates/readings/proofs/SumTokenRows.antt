@@ -9,7 +9,7 @@ use Rattle.definitions.specs.declared.expression.Interval.{Interval}
 use Rattle.definitions.specs.declared.Kind.TheVariants.{Rule, Invalid}
 use Rattle.definitions.specs.Patterns.{Matches, IsPrefix, is_member}
 use Rattle.definitions.specs.Spelling.{Address}
-use Rattle.definitions.specs.Tokens.{RuleMatches, IsRulePrefix, IsPiece, IsDead, IsReach, IsToken, Token, AreTokens}
+use Rattle.definitions.specs.Tokens.{RuleMatches, IsRulePrefix, IsUnmatched, IsPiece, IsDead, IsReach, IsToken, Token, AreTokens}
 
 abbrev pub token : ℕ → Token
 token k = record { kind = Rule k; length = 1; reach = 2 }
@@ -246,6 +246,9 @@ module _ (at : InMemory) where
       go (suc (suc (suc (suc zero)))) s = absurd (cc s.1)
       go (suc (suc (suc (suc (suc k))))) s = s
 
+  no_prefix_of_mark : IsRulePrefix patterns (codes "?") → ⊥
+  no_prefix_of_mark (j, h) = let found = some_prefix (slice_get patterns j) (codes "?") h in no_rule j found.0 found.1
+
   pub an_invalid_token : (rest : List ℕ) → IsToken patterns (63 ∷ rest) invalid
   an_invalid_token rest = record { piece = (refl, omega arith, unmatched); reach = inl (record { nonempty = omega arith; inside = omega arith; no_prefix = dead }, least) }
     where
@@ -272,3 +275,14 @@ module _ (at : InMemory) where
 
   no_empty_token : IsPiece patterns (codes "1") (Rule 0) 0 → ⊥
   no_empty_token i = omega (arith, i.nonempty)
+
+  -- no rule's text begins with a mark, and nothing matches there
+  a_dead_character : IsDead patterns (codes "?") 1
+  a_dead_character = record { nonempty = omega arith; inside = omega arith; no_prefix = no_prefix_of_mark }
+
+  nothing_matches : IsUnmatched patterns (codes "?")
+  nothing_matches j zero some l h = omega (arith, some)
+  nothing_matches j (suc n) some l h = no_rule j (take n []) h
+
+  a_number_matches : IsUnmatched patterns (codes "1") → ⊥
+  a_number_matches u = u 0 1 (omega arith) (omega arith) (a_digit 49 (omega arith) (omega arith) refl)

@@ -23,7 +23,7 @@ use Rattle.rpc.specs.Refusal.TheVariants as refusal
 use Rattle.rpc.specs.Replies.{Answer, capabilities_reply, error_reply, null_reply, text_reply, published_diagnostics}
 use Rattle.rpc.specs.Unit.TheVariants.{Utf8, Utf16}
 use Rattle.serde_json.proofs.OnLiterals.{serde_json_on_literals}
-use Rattle.sessions.specs.Answers.{IsPublished, IsAnswer}
+use Rattle.sessions.specs.Answers.{shown, IsPublished, IsAnswer}
 use Rattle.sessions.specs.Documents.{DocumentState, is_open, is_lost, Held, has_room}
 use Rattle.sessions.specs.Fresh.{IsFresh, RepliesOnly, AnswerAlike, Publishes, IsLastPublished, EveryAnswerIsFresh, EachTextIsItsEdits}
 use Rattle.sessions.specs.Runs.{Run}
@@ -261,3 +261,7 @@ unfolding chars encode_utf8 changed offset line_start line_from break_ends units
 edited_text law old new answers stop phase held step =
     let said = law old new Utf16 uri (pos 2) both_changes no_text (codes "2") answers stop phase held refl step in
     (said.0, said.1 other (λ e. omega (arith, ap (λ l. slice_index l 2) e)))
+
+shown_so : shown (record { range = start; message = 0xE9 ∷ [] }) ≡ (start, 0xC3 ∷ 0xA9 ∷ [])
+unfolding encode_utf8
+shown_so = refl

@@ -21,7 +21,7 @@ use Rattle.readings.specs.Texts.{LastEdit, OpenDocument}
 use Rattle.rpc.specs.Ids.{Ident, numbered}
 use Rattle.rpc.specs.Log.TheVariants as log
 use Rattle.rpc.specs.Loss.TheVariants as loss
-use Rattle.rpc.specs.Messages.{TextChange, Received, about, stats, its_text, its_tokens, its_tree, its_folds, its_selections, request, notification, open_text, unfit_change, accepted, invalid, unknown, params, refused}
+use Rattle.rpc.specs.Messages.{TextChange, Received, about, stats, its_text, its_tokens, its_tree, its_folds, its_selections, request, notification, open_text, exit, unfit_open, unfit_change, accepted, invalid, unknown, params, refused}
 use Rattle.rpc.specs.Refusal.TheVariants as refusal
 use Rattle.rpc.specs.Replies.{Answer, null_reply, text_reply, tokens_reply, tree_reply, stats_reply, folds_reply, selections_reply, error_reply, published_diagnostics, log_message}
 use Rattle.rpc.specs.Unit.TheVariants.{Utf8, Utf16}
@@ -74,6 +74,9 @@ module _ (file : FileGrammar) where
 
   enters_nothing : Enters (at New) Down (null_reply one) (null_reply one ∷ []) None (at New) → ⊥
   enters_nothing e = absurd (cc (different New e.2))
+
+  ignores : Ignores (at New) [] None (at New)
+  ignores = (refl, refl, refl)
 
   ignores_and_changes : Ignores (at New) [] None (at Down) → ⊥
   ignores_and_changes i = absurd (cc (different New (sym i.2)))
@@ -140,6 +143,12 @@ module _ (file : FileGrammar) where
       → Step (ready documents) (accepted (notification (open_text uri (pos 1) []))) (log_message log.TooManyDocuments ∷ []) None (ready documents)
   finds_no_room documents none =
       subst (λ b. Opens b (ready documents) uri (new_document Utf16 (pos 1) (chars [])) (log_message log.TooManyDocuments ∷ []) None (ready documents)) (sym none) (refl, refl, refl)
+
+  malformed_silently : OnMalformed (at (Ready Utf16)) unfit_open [] None (at (Ready Utf16)) → ⊥
+  malformed_silently m = absurd (cc m.0)
+
+  goes_on_after_exit : OnNotification Down (at Down) exit [] None (at Down) → ⊥
+  goes_on_after_exit n = absurd (cc n.1)
 
   -- ---- losses and closing
 
@@ -363,3 +372,6 @@ more_than_all (prefix, rest, is, appended) = by prefix appended is
   where
     by : (prefix : List ℕ) → codes "bcd" ≡ prefix → codes "bc" ≡ prefix ++ rest → ⊥
     by prefix same is = absurd (cc (subst (λ p. codes "bc" ≡ p ++ rest) (sym same) is))
+
+a_part : AppendsPrefix (Some (codes "a")) (Some (codes "ab")) (codes "bc")
+a_part = (codes "b", codes "c", refl, refl)
