@@ -53,11 +53,13 @@ How to read them:
 - `×` is "and", `⊎` "or", `→` "for every" or "implies", `(x : A) × P` "there is an `x` such that `P`", `¬` "not".
 - A *rule* is a token or skip rule of the grammar, by its number. The *kind* of a token is its rule, or "invalid". A *break* is a line
   break. In a tree a *branch* is a node that has a production, and a *leaf* a kind alone.
-- The files `proofs/*Rows.antt` work the definitions out on small examples, most of them by `refl` alone: positions in `TextRows`,
+- The files `proofs/*Rows.antt` work the definitions out on small examples, many of them by `refl` alone: positions in `TextRows`,
   patterns in `PatternRows` and `MatchRows`, edits in `TokenRows` and `TreeRows`, grammars in `GrammarRows` and `ExpectedRows`, answers
-  in `AnswerRows`, `FoldRows` and `TreeTextRows`; streams in `FrameRows` of `frames`, what is sent in `ReplyRows` of `replies`, what is
-  received in `MessageRows` and `ReceivedTextRows` of `rpc`, steps, runs and a session in `SessionRows` of `sessions`; in `theory`
-  `FreeRows`, a grammar and an edit that meet the premises of the laws. The check refuses a row that a definition doesn't give.
+  in `AnswerRows`, `FoldRows` and `TreeTextRows`; in `readings` from a text of sums to each answer in `ReadingRows`, with `SumsRows` and
+  `SumTokenRows`; streams in `FrameRows` of `frames`, what is sent in `ReplyRows` of `replies`, what is received in `MessageRows` and
+  `ReceivedTextRows` of `rpc`; in `sessions` steps, runs and sessions in `SessionRows` and `StepRows`, isolation in `AloneRows`,
+  freshness in `FreshRows`; in `theory` `FreeRows`, a grammar and an edit that meet the premises of the laws. The check refuses a row
+  that a definition doesn't give, and each of the wrong definitions in `wrong-definitions/` breaks a row (`tests/rows_only`).
 - A • after a name marks what the theorem rests on (docs/THEOREM.md): whoever has read these definitions has read the statement. They
   are found by the names that each mentions, from the contract of `server::run` down. A ◦ marks what it means besides that a grammar's
   file defines the language that `run` is given (`IsLanguageOf`).

@@ -10,6 +10,8 @@ import re
 
 import definitions as definitions_page
 import libraries
+from rows import Guards
+from rows_copy import UNDER_RUN
 from specs import Definitions, files_of, imports_of, lines_of, words_of_run
 
 # The most columns of a line of a contract, and of a line of a definition.
@@ -22,14 +24,20 @@ WIDTH_OF_PROOFS = 199
 HOLE = re.compile(r"\?|\{!")
 NUMBERS = ("no", "one", "two", "three", "four", "five", "six", "seven", "eight", "nine", "ten")
 
-# The definitions under `run` that have no row of their own, and why.
-WITHOUT_A_ROW = {
-    "sessions.Alone.EachDocumentIsAlone": "a law of all steps, which is proved; its words have rows",
-    "sessions.Alone.EachRunHasAHistory": "a law of all runs, which is proved; its words have rows",
-    "sessions.Alone.HistoriesDecide": "a law of all histories, which is proved; its words have rows",
-    "sessions.Fresh.EachTextIsItsEdits": "a law of all steps, which is proved; its words have rows",
-    "sessions.Fresh.EveryAnswerIsFresh": "a law of all runs, which is proved; its words have rows",
-    "sessions.Fresh.IsFresh": "it needs a reading of a text by a whole grammar; its words have rows",
+# The laws under `run`, which no row gives: a row takes each as a premise, so that one that says less no longer fits. They are proved in
+# sessions/src/laws.rt.
+LAWS = (
+    "sessions.Alone.EachDocumentIsAlone",
+    "sessions.Alone.EachRunHasAHistory",
+    "sessions.Alone.HistoriesDecide",
+    "sessions.Fresh.EachTextIsItsEdits",
+    "sessions.Fresh.EveryAnswerIsFresh",
+)
+
+# The relations under `run` that a row gives and none refuses, with the law that at most one thing is given: so a row that gives one thing
+# refuses all others.
+GIVEN_ONCE = {
+    "readings.Contents.IsSelectionOf": "readings.answers_are_unique",
 }
 
 CLAUSE = re.compile(r"^\s*(?:ensures|requires|invariant|ghost view)\b")
@@ -133,20 +141,45 @@ def idle_in_common(top):
     return sorted(f"{crate}: {name}" for crate, names in passed_on.items() for name in names - taken[crate])
 
 
-def without_rows(top, definitions, keys):
-    """Those of these definitions that no file `proofs/*Rows.antt` names, and on which nothing rests that such a file names."""
-    named = set()
-    for path in files_of(top, "proofs", "Rows.antt"):
-        names, _ = imports_of("\n".join(lines_of(path)))
-        named |= {definitions.found(*place) for place in names.values()}
-    covered = definitions.rest(sorted(named - {None}))
-    return sorted(".".join(key) for key in keys if key not in covered)
+def unguarded(guards, keys):
+    """Those of these definitions that no rows guard, but for laws that rows use, and relations that are given at most once."""
+    lacking = {".".join(key): key for key in keys if not guards.is_guarded(key)}
+    excused = {name for name, key in lacking.items() if name in LAWS and key in guards.uses}
+    excused |= {name for name, key in lacking.items() if name in GIVEN_ONCE and key in guards.gives}
+    return sorted(set(lacking) - excused)
 
 
-def wrong_edits(top):
-    """How many edits there are that the check has to refuse."""
-    folders = (os.path.join(top, "crates", crate, "must-fail") for crate in os.listdir(os.path.join(top, "crates")))
+def idle_exceptions(guards, keys):
+    """The exceptions that are none: what rows guard, and what isn't under `run`."""
+    lacking = {".".join(key) for key in keys if not guards.is_guarded(key)}
+    return sorted({*LAWS, *GIVEN_ONCE} - lacking)
+
+
+def missing_laws(top):
+    """The laws of `GIVEN_ONCE` that aren't there."""
+    missing = []
+    for law in GIVEN_ONCE.values():
+        crate, name = law.split(".")
+        text = "\n".join(lines_of(os.path.join(top, "crates", crate, "src", "laws.rt")))
+        missing += [] if re.search(rf"^pub fn {name}\b", text, re.M) else [law]
+    return missing
+
+
+def edits(top, folder):
+    """How many edits the crates have in folders of this name."""
+    folders = (os.path.join(top, "crates", crate, folder) for crate in os.listdir(os.path.join(top, "crates")))
     return sum(name.endswith(".edit") for folder in folders if os.path.isdir(folder) for name in os.listdir(folder))
+
+
+def misplaced_edits(top):
+    """The edits of definitions in `must-fail/`, where a proof whose form no longer fits refuses them too."""
+    found = []
+    for crate in UNDER_RUN:
+        folder = os.path.join(top, "crates", crate, "must-fail")
+        names = sorted(os.listdir(folder)) if os.path.isdir(folder) else []
+        texts = {name: "\n".join(lines_of(os.path.join(folder, name))) for name in names if name.endswith(".edit")}
+        found += [f"{crate}/{name}" for name, text in texts.items() if re.search(r"^file: specs/", text, re.M)]
+    return found
 
 
 def sizes(top):
@@ -170,7 +203,12 @@ def check(cases, top):
     definitions = Definitions(top)
     rest = definitions.rest(words_of_run(top, definitions))
     cases.check("each definition under `run` has a comment", [], untold(definitions, rest))
-    cases.check("each definition under `run` has a row, or a reason why not", sorted(WITHOUT_A_ROW), without_rows(top, definitions, rest))
+    guards = Guards(top, definitions, UNDER_RUN)
+    cases.check("the crates with definitions under `run` are those whose rows are read", sorted(UNDER_RUN), sorted({key[0] for key in rest}))
+    cases.check("rows guard each definition under `run`", [], unguarded(guards, rest))
+    cases.check("each exception is one", [], idle_exceptions(guards, rest))
+    cases.check("the laws by which things are given once are there", [], missing_laws(top))
+    cases.check("no edit of a definition under `run` is in must-fail/", [], misplaced_edits(top))
     cases.check("each definition that another crate names has a comment", [], untold(definitions, used_elsewhere(top, definitions)))
     cases.check("the pages of definitions are what tests/definitions.py writes", [], definitions_page.differences(top))
     theorem = page(top, "docs/THEOREM.md")
@@ -182,8 +220,10 @@ def check(cases, top):
     said = re.search(r"rests on (\d+) definitions more, (\d+) lines", theorem)
     awaited = (str(len(meaning)), str(definitions.lines(meaning)))
     cases.check("docs/THEOREM.md says what a grammar's file means", awaited, said and said.groups())
-    edits = re.findall(r"(\d+) files", theorem)
-    cases.check("docs/THEOREM.md gives the number of wrong edits", True, str(wrong_edits(top)) in edits)
+    said = re.search(r"of the (\d+) files `must-fail/", theorem)
+    cases.check("docs/THEOREM.md gives the number of wrong edits", str(edits(top, "must-fail")), said and said[1])
+    said = re.search(r"of the (\d+) files `wrong-definitions/", theorem)
+    cases.check("docs/THEOREM.md gives the number of wrong definitions", str(edits(top, "wrong-definitions")), said and said[1])
     reported = re.findall(r"^\|.*\| ([\d,]+) \|$", theorem, re.M)
     cases.check("docs/THEOREM.md gives the lines of the crates", sizes(top), reported)
     cases.check("no line of a contract is too wide", [], wide_clauses(top))

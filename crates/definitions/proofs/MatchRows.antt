@@ -107,7 +107,7 @@ module _ (p : Address) (v : Vec Interval Global) (digits : v.items ≡ record { 
   not_invalid h = h.2 0 1 (omega arith) (omega arith) just_one
 
   -- an invalid token has one character
-  not_two_invalid : ¬ IsPiece rules (codes "??") Invalid 2
+  not_two_invalid : ¬ IsPiece rules (codes "##") Invalid 2
   not_two_invalid h = omega (arith, h.0)
 
   no_invalid_after_the_end : ¬ IsPiece rules [] Invalid 1
@@ -208,7 +208,7 @@ module _ (p q : Address) (x y : Vec ℕ Global) (x_is : x.items ≡ codes "a") (
   not_both (inl m) = absurd (cc (m ∙ x_is))
   not_both (inr m) = omega (arith, ap (λ l. slice_index l 0) (m ∙ y_is))
 
-  -- `"a"?` is nothing or `a`, and not `aa`
+  -- the optional one is nothing or `a`, and not `aa`
   perhaps : Matches (Optional' p (Literal x)) [] × Matches (Optional' p (Literal x)) (codes "a")
   perhaps = (inl refl, inr is_a)
 

@@ -288,8 +288,8 @@ module _ (at : InMemory) where
   open_fault = (open_reading, open_is_read, (1 ∷ 3 ∷ [], false, after_open, refl))
 
   -- a character that no rule matches
-  unknown_tokens : AreTokens (patterns at) (codes "1?") (token 0 ∷ invalid ∷ [])
-  unknown_tokens = (one_digit at 49 63 [] (omega arith) (omega arith) refl refl, (an_invalid_token at [], refl))
+  unknown_tokens : AreTokens (patterns at) (codes "1#") (token 0 ∷ invalid ∷ [])
+  unknown_tokens = (one_digit at 49 35 [] (omega arith) (omega arith) refl refl, (an_invalid_token at [], refl))
 
   -- what may follow is told in order, and the end last
   looks_in_order : looks (1 ∷ 3 ∷ []) true ≡ Some plus ∷ Some right ∷ None ∷ []
@@ -404,7 +404,8 @@ module _ (at : InMemory) where
 
   pub plus_is_read : IsReading file (codes "1+2+") plus_reading
   plus_is_read = record {
-    tokens = (one_digit at 49 43 (codes "2+") (omega arith) (omega arith) refl refl, (a_plus_token at (codes "2+"), (one_digit at 50 43 [] (omega arith) (omega arith) refl refl, (a_plus_token at [], refl))));
+    tokens = (one_digit at 49 43 (codes "2+") (omega arith) (omega arith) refl refl,
+        (a_plus_token at (codes "2+"), (one_digit at 50 43 [] (omega arith) (omega arith) refl refl, (a_plus_token at [], refl))));
     verdict = one_more;
     trees = plus_settles;
   }
@@ -445,7 +446,8 @@ module _ (at : InMemory) where
 
       each : (n : Node) → IsNodeOf sums (double ∷ []) n → Inner n
       each = each_node Inner (double ∷ [])
-          ((λ c d. Contains-first (0, 3) ((2, 3) ∷ []), ((before_two 0, ((before_two 1, (tt, tt)), tt)), (tt, ((λ c d. Contains-later (0, 3) ((2, 3) ∷ []) (2, 3) (Contains-first (2, 3) []), (tt, tt)), tt)))), tt)
+          ((λ c d. Contains-first (0, 3) ((2, 3) ∷ []), ((before_two 0, ((before_two 1, (tt, tt)), tt)),
+          (tt, ((λ c d. Contains-later (0, 3) ((2, 3) ∷ []) (2, 3) (Contains-first (2, 3) []), (tt, tt)), tt)))), tt)
 
       outer : IsInner (0, 3)
       outer = (unequal 0 3 0 4 (λ e. omega (arith, e)), node 0 0 3, ([], 0, _, _, Top, refl, refl, refl), (omega arith, omega arith, omega arith), refl)

@@ -235,10 +235,10 @@ module _ (at : InMemory) where
       single c 4 (d ∷ r) (a_blank c low m) (from_four c never low) (λ e s same. subst (λ x. joins c x ≡ false) (ap (λ l. slice_index l 0) same) apart')
 
   -- a character with which no text of a rule begins is an invalid token, which it alone decides
-  no_rule : (j : ℕ) (r : List ℕ) → ¬ RuleMatches patterns j (63 ∷ r)
-  no_rule j r h = go j (shape j (63 ∷ r) h)
+  no_rule : (j : ℕ) (r : List ℕ) → ¬ RuleMatches patterns j (35 ∷ r)
+  no_rule j r h = go j (shape j (35 ∷ r) h)
     where
-      go : (j : ℕ) → Shape j (63 ∷ r) → ⊥
+      go : (j : ℕ) → Shape j (35 ∷ r) → ⊥
       go zero s = absurd (cc s.1)
       go (suc zero) s = omega (arith, ap (λ l. slice_index l 0) s)
       go (suc (suc zero)) s = omega (arith, ap (λ l. slice_index l 0) s)
@@ -246,27 +246,27 @@ module _ (at : InMemory) where
       go (suc (suc (suc (suc zero)))) s = absurd (cc s.1)
       go (suc (suc (suc (suc (suc k))))) s = s
 
-  no_prefix_of_mark : IsRulePrefix patterns (codes "?") → ⊥
-  no_prefix_of_mark (j, h) = let found = some_prefix (slice_get patterns j) (codes "?") h in no_rule j found.0 found.1
+  no_prefix_of_mark : IsRulePrefix patterns (codes "#") → ⊥
+  no_prefix_of_mark (j, h) = let found = some_prefix (slice_get patterns j) (codes "#") h in no_rule j found.0 found.1
 
-  pub an_invalid_token : (rest : List ℕ) → IsToken patterns (63 ∷ rest) invalid
+  pub an_invalid_token : (rest : List ℕ) → IsToken patterns (35 ∷ rest) invalid
   an_invalid_token rest = record { piece = (refl, omega arith, unmatched); reach = inl (record { nonempty = omega arith; inside = omega arith; no_prefix = dead }, least) }
     where
-      unmatched : (j n : ℕ) → 1 ≤ n → n ≤ length (63 ∷ rest) → ¬ RuleMatches patterns j (take n (63 ∷ rest))
+      unmatched : (j n : ℕ) → 1 ≤ n → n ≤ length (35 ∷ rest) → ¬ RuleMatches patterns j (take n (35 ∷ rest))
       unmatched j zero some l h = omega (arith, some)
       unmatched j (suc n) some l h = no_rule j (take n rest) h
 
-      dead : ¬ IsRulePrefix patterns (63 ∷ [])
-      dead (j, h) = let found = some_prefix (slice_get patterns j) (63 ∷ []) h in no_rule j found.0 found.1
+      dead : ¬ IsRulePrefix patterns (35 ∷ [])
+      dead (j, h) = let found = some_prefix (slice_get patterns j) (35 ∷ []) h in no_rule j found.0 found.1
 
-      least : (n : ℕ) → IsDead patterns (63 ∷ rest) n → 1 ≤ n
+      least : (n : ℕ) → IsDead patterns (35 ∷ rest) n → 1 ≤ n
       least n x = x.nonempty
 
   -- where a rule matches, no token is invalid
   no_invalid_number : IsPiece patterns (codes "1") Invalid 1 → ⊥
   no_invalid_number i = i.2 0 1 (omega arith) (omega arith) (a_digit 49 (omega arith) (omega arith) refl)
 
-  no_invalid_pair : IsPiece patterns (codes "??") Invalid 2 → ⊥
+  no_invalid_pair : IsPiece patterns (codes "##") Invalid 2 → ⊥
   no_invalid_pair i = omega (arith, i.0)
 
   -- a plus is no token of the rule of numbers, and a token has a character
@@ -277,10 +277,10 @@ module _ (at : InMemory) where
   no_empty_token i = omega (arith, i.nonempty)
 
   -- no rule's text begins with a mark, and nothing matches there
-  a_dead_character : IsDead patterns (codes "?") 1
+  a_dead_character : IsDead patterns (codes "#") 1
   a_dead_character = record { nonempty = omega arith; inside = omega arith; no_prefix = no_prefix_of_mark }
 
-  nothing_matches : IsUnmatched patterns (codes "?")
+  nothing_matches : IsUnmatched patterns (codes "#")
   nothing_matches j zero some l h = omega (arith, some)
   nothing_matches j (suc n) some l h = no_rule j (take n []) h
 

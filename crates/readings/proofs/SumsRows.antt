@@ -320,7 +320,10 @@ at_first = record {
 pub after_number : IsExpected sums (num ∷ []) (1 ∷ []) true
 after_number = record {
   in_order = λ k l. absurd (omega (arith, l));
-  each = λ a. ((λ c. subst (λ n. IsViable sums (num ∷ Token n ∷ [])) (only a (Contains-cases 1 [] a c)) (num ∷ [], (double, double_is))), (λ v. must a v.0 (sentence_goes_on (num ∷ Token a ∷ v.0) v.1)));
+  each = λ a. (
+    (λ c. subst (λ n. IsViable sums (num ∷ Token n ∷ [])) (only a (Contains-cases 1 [] a c)) (num ∷ [], (double, double_is))),
+    (λ v. must a v.0 (sentence_goes_on (num ∷ Token a ∷ v.0) v.1)),
+  );
   ends = ((λ e. (single, single_is)), (λ s. refl));
 }
   where
