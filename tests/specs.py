@@ -18,7 +18,7 @@ def files_of(top, folder, ending):
     """The paths of the crates' files in a folder of this name, in order."""
     found = []
     for path, folders, names in os.walk(os.path.join(top, "crates")):
-        folders[:] = sorted(name for name in folders if name not in ("out", "must-fail"))
+        folders[:] = sorted(name for name in folders if name not in ("out", "must-fail", "wrong-definitions"))
         if folder in os.path.relpath(path, top).split(os.sep):
             found += [os.path.join(path, name) for name in sorted(names) if name.endswith(ending)]
     return found

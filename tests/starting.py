@@ -157,6 +157,7 @@ def builds_quickly(cases, checkout):
         ("crates/tests/src/lib.rt", QUICK),
         ("crates/a/out/a", QUICK),
         ("crates/lrls/must-fail/an.edit", QUICK),
+        ("crates/lrls/wrong-definitions/an.edit", QUICK),
         ("crates/a/src/lib.rt", missing),
         ("crates/b/specs/deep/New.antt", missing),
         ("crates/lrls/src/main.rt", missing),
@@ -353,7 +354,8 @@ def proves(cases, checkout):
     checkout.newer("crates/a/src/lib.rt")
     checkout.forget()
     checkout.kit(keeps=True)
-    checkout.placed("crates/lrls/must-fail/an.edit", "")
+    for name in ("must-fail", "wrong-definitions"):
+        checkout.placed(f"crates/lrls/{name}/an.edit", "")
     cases.check("prove, in a copy", ("", PROVING + DONE + UNMARKED, 0), checkout.run("prove"))
     files = "a: \nb: a\nlrls: b\nnone " + "\n".join(
         ["crates/a/src/lib.rt", "crates/b/src/lib.rt", "crates/lrls/src/main.rt"]

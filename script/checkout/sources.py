@@ -10,7 +10,7 @@ import os
 # The crates that are programs, and the commands that they are run by.
 COMMANDS = {"lrls": "lrls", "lrls_ide": "lrls-ide"}
 # Parts of a crate that its program isn't made of.
-OTHER_PARTS = ("out", "must-fail")
+OTHER_PARTS = ("out", "must-fail", "wrong-definitions")
 
 
 def newest(folder: str) -> int:

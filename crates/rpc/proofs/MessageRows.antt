@@ -240,7 +240,7 @@ unfolding chars encode_utf8 is_utf8 serde_json_on_literals
 negative_position = refl
 
 -- a content that isn't UTF-8
-not_utf8 : received_in (123 ∷ 34 ∷ 255 ∷ 34 ∷ 125 ∷ []) ≡ unread
+not_utf8 : received_in (34 ∷ 255 ∷ 34 ∷ []) ≡ unread
 unfolding chars encode_utf8 is_utf8 serde_json_on_literals
 not_utf8 = refl
 
