@@ -313,14 +313,28 @@ module _ (at : InMemory) where
   lines_are_read = record {
     tokens = (
       a_left_token at (codes "\n(\n1\n)\n)"),
-      (a_blank_token at 10 40 (codes "\n1\n)\n)") (omega arith) refl refl refl,
-      (a_left_token at (codes "\n1\n)\n)"),
-      (a_blank_token at 10 49 (codes "\n)\n)") (omega arith) refl refl refl,
-      (one_digit at 49 10 (codes ")\n)") (omega arith) (omega arith) refl refl,
-      (a_blank_token at 10 41 (codes "\n)") (omega arith) refl refl refl,
-      (a_right_token at (codes "\n)"),
-      (a_blank_token at 10 41 [] (omega arith) refl refl refl,
-      (a_right_token at [], refl)))))))),
+      (
+        a_blank_token at 10 40 (codes "\n1\n)\n)") (omega arith) refl refl refl,
+        (
+          a_left_token at (codes "\n1\n)\n)"),
+          (
+            a_blank_token at 10 49 (codes "\n)\n)") (omega arith) refl refl refl,
+            (
+              one_digit at 49 10 (codes ")\n)") (omega arith) (omega arith) refl refl,
+              (
+                a_blank_token at 10 41 (codes "\n)") (omega arith) refl refl refl,
+                (
+                  a_right_token at (codes "\n)"),
+                  (
+                    a_blank_token at 10 41 [] (omega arith) refl refl refl,
+                    (a_right_token at [], refl),
+                  ),
+                ),
+              ),
+            ),
+          ),
+        ),
+      ),
     );
     verdict = record { root = nested_is (nested single) (nested_is single single_is.root); kinds = refl };
     trees = refl;
@@ -404,8 +418,10 @@ module _ (at : InMemory) where
 
   pub plus_is_read : IsReading file (codes "1+2+") plus_reading
   plus_is_read = record {
-    tokens = (one_digit at 49 43 (codes "2+") (omega arith) (omega arith) refl refl,
-        (a_plus_token at (codes "2+"), (one_digit at 50 43 [] (omega arith) (omega arith) refl refl, (a_plus_token at [], refl))));
+    tokens = (
+      one_digit at 49 43 (codes "2+") (omega arith) (omega arith) refl refl,
+      (a_plus_token at (codes "2+"), (one_digit at 50 43 [] (omega arith) (omega arith) refl refl, (a_plus_token at [], refl))),
+    );
     verdict = one_more;
     trees = plus_settles;
   }
@@ -445,9 +461,16 @@ module _ (at : InMemory) where
       nested_so (suc i) j d l m = absurd (omega (arith, l, m))
 
       each : (n : Node) → IsNodeOf sums (double ∷ []) n → Inner n
-      each = each_node Inner (double ∷ [])
-          ((λ c d. Contains-first (0, 3) ((2, 3) ∷ []), ((before_two 0, ((before_two 1, (tt, tt)), tt)),
-          (tt, ((λ c d. Contains-later (0, 3) ((2, 3) ∷ []) (2, 3) (Contains-first (2, 3) []), (tt, tt)), tt)))), tt)
+      each = each_node Inner (double ∷ []) (
+        (
+          λ c d. Contains-first (0, 3) ((2, 3) ∷ []),
+          (
+            (before_two 0, ((before_two 1, (tt, tt)), tt)),
+            (tt, ((λ c d. Contains-later (0, 3) ((2, 3) ∷ []) (2, 3) (Contains-first (2, 3) []), (tt, tt)), tt)),
+          ),
+        ),
+        tt,
+      )
 
       outer : IsInner (0, 3)
       outer = (unequal 0 3 0 4 (λ e. omega (arith, e)), node 0 0 3, ([], 0, _, _, Top, refl, refl, refl), (omega arith, omega arith, omega arith), refl)
@@ -511,9 +534,13 @@ module _ (at : InMemory) where
   triple_reading = record { tokens = tokens_of (0 ∷ 1 ∷ 0 ∷ 1 ∷ 0 ∷ []); verdict = HasTree triple; trees = triple ∷ [] }
 
   abbrev triple_tokens : AreTokens (patterns at) (codes "1+2+3") triple_reading.tokens
-  triple_tokens = (one_digit at 49 43 (codes "2+3") (omega arith) (omega arith) refl refl,
-      (a_plus_token at (codes "2+3"),
-      (one_digit at 50 43 (codes "3") (omega arith) (omega arith) refl refl, (a_plus_token at (codes "3"), (last_digit at 51 (omega arith) (omega arith) refl, refl)))))
+  triple_tokens = (
+    one_digit at 49 43 (codes "2+3") (omega arith) (omega arith) refl refl,
+    (
+      a_plus_token at (codes "2+3"),
+      (one_digit at 50 43 (codes "3") (omega arith) (omega arith) refl refl, (a_plus_token at (codes "3"), (last_digit at 51 (omega arith) (omega arith) refl, refl))),
+    ),
+  )
 
   triple_is_read : IsReading file (codes "1+2+3") triple_reading
   triple_is_read = record { tokens = triple_tokens; verdict = triple_is; trees = refl }
@@ -523,11 +550,19 @@ module _ (at : InMemory) where
 
   longer_is_read : IsReading file (codes "1+2+3+4") longer_reading
   longer_is_read = record {
-    tokens = (one_digit at 49 43 (codes "2+3+4") (omega arith) (omega arith) refl refl,
-        (a_plus_token at (codes "2+3+4"),
-        (one_digit at 50 43 (codes "3+4") (omega arith) (omega arith) refl refl,
-        (a_plus_token at (codes "3+4"),
-        (one_digit at 51 43 (codes "4") (omega arith) (omega arith) refl refl, (a_plus_token at (codes "4"), (last_digit at 52 (omega arith) (omega arith) refl, refl)))))));
+    tokens = (
+      one_digit at 49 43 (codes "2+3+4") (omega arith) (omega arith) refl refl,
+      (
+        a_plus_token at (codes "2+3+4"),
+        (
+          one_digit at 50 43 (codes "3+4") (omega arith) (omega arith) refl refl,
+          (
+            a_plus_token at (codes "3+4"),
+            (one_digit at 51 43 (codes "4") (omega arith) (omega arith) refl refl, (a_plus_token at (codes "4"), (last_digit at 52 (omega arith) (omega arith) refl, refl))),
+          ),
+        ),
+      ),
+    );
     verdict = quadruple_is;
     trees = refl;
   }
@@ -585,9 +620,13 @@ module _ (at : InMemory) where
 
   closed_is_read : IsReading file (codes "(1+2)") closed_reading
   closed_is_read = record {
-    tokens = (a_left_token at (codes "1+2)"),
-        (one_digit at 49 43 (codes "2)") (omega arith) (omega arith) refl refl,
-        (a_plus_token at (codes "2)"), (one_digit at 50 41 [] (omega arith) (omega arith) refl refl, (a_right_token at [], refl)))));
+    tokens = (
+      a_left_token at (codes "1+2)"),
+      (
+        one_digit at 49 43 (codes "2)") (omega arith) (omega arith) refl refl,
+        (a_plus_token at (codes "2)"), (one_digit at 50 41 [] (omega arith) (omega arith) refl refl, (a_right_token at [], refl))),
+      ),
+    );
     verdict = record { root = nested_is double double_is.root; kinds = refl };
     trees = refl;
   }

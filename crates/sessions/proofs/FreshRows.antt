@@ -197,10 +197,10 @@ module _ (patterns : List Expression) where
       let step = subst (λ s. Step s (accepted (notification (open_text uri (pos 1) f.bytes))) (p ∷ []) None at_end) f.initializes.2 f.opens in
       let opens = subst (λ b. Opens b (ready empty) uri (new_document Utf16 (pos 1) (chars f.bytes)) (p ∷ []) None at_end) (room empty (len-empty _ _)) step in
       let holds_two : Holds (ready empty) uri (is_open two) (p ∷ []) None at_end =
-          subst (λ t. Opens true (ready empty) uri (new_document Utf16 (pos 1) t) (p ∷ []) None at_end) f.spelled opens in
+      subst (λ t. Opens true (ready empty) uri (new_document Utf16 (pos 1) t) (p ∷ []) None at_end) f.spelled opens in
       let same : insert empty uri (is_open no_text) ≡ insert empty uri (is_open two) = ap (λ (s : State). s.documents) holds_two.3.1 in
       let found = sym (get-insert nat_list_cmp_total empty uri (is_open no_text) uri) ∙ ap (λ (d : Held). get d uri) same
-          ∙ get-insert nat_list_cmp_total empty uri (is_open two) uri in
+      ∙ get-insert nat_list_cmp_total empty uri (is_open two) uri in
       let lengths : 0 ≡ 1 = ap length_of found in
       omega (arith, lengths)
 
