@@ -10,8 +10,7 @@ import re
 
 import definitions as definitions_page
 import libraries
-from rows import Guards
-from rows_copy import UNDER_RUN
+from rows import UNDER_RUN, Guards
 from specs import Definitions, files_of, imports_of, lines_of, words_of_run
 
 # The most columns of a line of a contract, and of a line of a definition.
