@@ -13,6 +13,10 @@ class Cases:
         self.passed = 0
         self.failed = 0
 
+    def count(self):
+        """How many cases there were."""
+        return self.passed + self.failed
+
     def check(self, name, awaited, ran):
         if awaited == ran:
             self.passed += 1
