@@ -1,7 +1,7 @@
 -- One or more digits: how the expression is spelled, what it matches, and the tokens of `12`.
 use Rattle.std.specs.declared.alloc.Global.{Global}
 use Rattle.std.specs.List.{AllByRecursion, concat}
-use Rattle.std.specs.Prelude.{◌≡◌, ◌≢◌, ◌≤◌, ◌⊎◌, ℕ, zero, suc, true, false, List, [], ◌∷◌, length, slice_index, codes, Vec, ◌++◌, refl}
+use Rattle.std.specs.Prelude.{◌≡◌, ◌≢◌, ◌≤◌, ℕ, zero, suc, true, false, List, [], ◌∷◌, length, slice_index, codes, Vec, ◌++◌, refl}
 use Rattle.std.proofs.Common.{arith, ap, sym, subst, ◌∙◌, inl, inr, length-append}
 use Rattle.definitions.specs.declared.expression.Expression.TheVariants.{Literal, Class, Sequence', Choice', Star', Plus', Optional'}
 use Rattle.definitions.specs.declared.expression.Expression.{Expression}
@@ -12,7 +12,7 @@ use Rattle.definitions.specs.PatternFaults.{first_fault, IsFault}
 use Rattle.definitions.specs.Patterns.{Matches, IsPrefix, IsJoin, IsNonemptyJoin, is_in_class, is_member, is_within}
 use Rattle.definitions.specs.PatternText.{Plain}
 use Rattle.definitions.specs.Spelling.{Address, Spells, SpellsAt, IsPattern, Atom, class, plus, star, one_seq, one_rep}
-use Rattle.definitions.specs.Tokens.{RuleMatches, IsRulePrefix, IsLongest, IsPiece, IsDead, IsReach, IsToken, Token, AreTokens}
+use Rattle.definitions.specs.Tokens.{IsRulePrefix, IsLongest, IsPiece, IsDead, IsReach, IsToken, Token, AreTokens}
 
 -- wherever its parts lie in memory
 module _ (p : Address) (v : Vec Interval Global) (digits : v.items ≡ record { first = 48; last = 57 } ∷ []) where

@@ -1,9 +1,8 @@
 -- From a text of sums to what is reported of it, and what edits make of two such texts.
 use Rattle.std.specs.Char.{encode_utf8}
 use Rattle.std.specs.Str.{all_scalars}
-use Rattle.std.specs.Prelude.{◌≡◌, ◌≢◌, ◌⊎◌, ℕ, zero, suc, ◌+◌, ◌<◌, ◌≤◌, pos, Bool, true, false, Option, Some, None, List, [], ◌∷◌, ◌++◌, length, codes, refl, map, slice_index, slice_index_or, Contains, AllPairs, IsTrue, ◌-◌, ◌&&◌, nat_le, encode_utf8_all}
+use Rattle.std.specs.Prelude.{◌≡◌, ◌≢◌, ◌⊎◌, ℕ, zero, suc, ◌+◌, ◌≤◌, pos, true, false, Option, Some, None, List, [], ◌∷◌, length, codes, refl, map, slice_index, slice_index_or, Contains, AllPairs, IsTrue, ◌-◌, ◌&&◌, nat_le, encode_utf8_all}
 use Rattle.std.proofs.Common.{ap, sym, subst, ◌∙◌, inl, inr, arith, length-append}
-use Rattle.definitions.specs.declared.Kind.{Kind}
 use Rattle.definitions.specs.declared.Position.{Position}
 use Rattle.definitions.specs.declared.Range.{Range}
 use Rattle.definitions.specs.declared.Stats.{Stats}
@@ -14,7 +13,7 @@ use Rattle.definitions.specs.DocumentNodes.{IsNodeOf}
 use Rattle.definitions.specs.Nodes.{StandsIn, Top, Below, Past, place_of}
 use Rattle.definitions.specs.Sentences.{HasTree, FaultAt, FaultAtEnd}
 use Rattle.definitions.specs.Text.{break_ends, line_of, line_start, line_from, units, greatest, offset, position, changed}
-use Rattle.definitions.specs.TokenEdits.{Splice, splice}
+use Rattle.definitions.specs.TokenEdits.{Splice}
 use Rattle.definitions.specs.Tokens.{Placed, Token, AreTokens}
 use Rattle.definitions.specs.TreeEdits.{IsTouched, IsMoved, IsKept, Built, Nothing, Kept, New, Token as AToken}
 use Rattle.definitions.specs.Trees.{HasProduction, Production, Tree, Forest, Leaf, Branch, Nil, Cons, trees, yield, yields, all_kinds}
@@ -25,7 +24,7 @@ use Rattle.readings.specs.Diagnostics.{IsDiagnosis, IsFaultAfter, looks}
 use Rattle.readings.specs.Edits.{IsAbove, Makes, IsNext, ReportsLast, AreStats, number_of, number_after, edit_of, without_nodes}
 use Rattle.readings.specs.Texts.{LastEdit, OpenDocument, fits}
 use Rattle.definitions.proofs.Ordered.{Contains-first, Contains-later, Contains-none, Contains-cases}
-use Rattle.readings.proofs.SumsRows.{sums, skips, sums_file, num, plus, left, right, number, inside, one, added, single, single_is, double, double_is, triple, triple_is, quadruple, quadruple_is, nested, nested_is}
+use Rattle.readings.proofs.SumsRows.{sums, sums_file, num, plus, left, right, number, inside, single, single_is, double, double_is, triple, triple_is, quadruple, quadruple_is, nested, nested_is}
 use Rattle.readings.proofs.SumsRows.{two_numbers, twice_opened, opened_sum, one_more, closed_at_first, after_number, after_open, after_plus}
 use Rattle.readings.proofs.SumsRows.{number_settles, opened_settles, sum_settles, plus_settles, none_settled}
 use Rattle.readings.proofs.SumTokenRows.{InMemory, patterns, token, invalid, one_digit, last_digit, a_plus_token, a_left_token, a_right_token, a_blank_token, an_invalid_token}

@@ -9,7 +9,7 @@ use Rattle.definitions.specs.declared.expression.Interval.{Interval}
 use Rattle.definitions.specs.declared.Kind.TheVariants.{Rule, Invalid}
 use Rattle.definitions.specs.Patterns.{Matches, IsPrefix, is_member}
 use Rattle.definitions.specs.Spelling.{Address}
-use Rattle.definitions.specs.Tokens.{RuleMatches, IsRulePrefix, IsUnmatched, IsPiece, IsDead, IsReach, IsToken, Token, AreTokens}
+use Rattle.definitions.specs.Tokens.{RuleMatches, IsRulePrefix, IsUnmatched, IsPiece, IsDead, IsToken, Token}
 
 abbrev pub token : ℕ → Token
 token k = record { kind = Rule k; length = 1; reach = 2 }

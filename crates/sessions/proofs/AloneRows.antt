@@ -2,7 +2,7 @@
 -- isolation on sessions of two messages.
 use Rattle.std.specs.Char.{encode_utf8}
 use Rattle.std.specs.FinMap.{empty, get, insert, get-empty, get-insert}
-use Rattle.std.specs.Prelude.{◌≡◌, ◌≢◌, ◌⊎◌, ℕ, pos, Bool, true, false, List, [], ◌∷◌, ◌++◌, map, All, codes, refl, Option, Some, None, MatchOption, slice_index}
+use Rattle.std.specs.Prelude.{◌≡◌, ◌≢◌, ℕ, pos, true, false, List, [], ◌∷◌, ◌++◌, map, All, codes, refl, Option, Some, None, MatchOption, slice_index}
 use Rattle.std.specs.Str.{chars, is_utf8}
 use Rattle.std.proofs.Common.{ap, arith, inl, inr, sym, subst, ◌∙◌}
 use Rattle.std.proofs.lemmas.Cmp.{nat_list_cmp_total}
@@ -10,20 +10,19 @@ use Rattle.readings.specs.Grammars.{FileGrammar}
 use Rattle.readings.specs.Texts.{OpenDocument}
 use Rattle.rpc.specs.Ids.{Ident, numbered}
 use Rattle.rpc.specs.Loss.TheVariants as loss
-use Rattle.rpc.specs.Messages.{Received, about, its_text, close, open_text, change_text, request, notification, unread, accepted}
+use Rattle.rpc.specs.Messages.{Received, about, its_text, open_text, change_text, request, notification, accepted}
 use Rattle.rpc.specs.Reading.{received_in}
 use Rattle.rpc.specs.Refusal.TheVariants as refusal
-use Rattle.rpc.specs.Replies.{Answer, error_reply, null_reply, text_reply, published_diagnostics}
+use Rattle.rpc.specs.Replies.{Answer, error_reply}
 use Rattle.rpc.specs.Unit.TheVariants.{Utf16}
 use Rattle.serde_json.proofs.OnLiterals.{serde_json_on_literals}
-use Rattle.sessions.specs.Alone.{named, finds_room, loses, loses_memory, AreAlikeFor, SameFor, SendTheSame, EachDocumentIsAlone, EachRunHasAHistory, HistoriesDecide, Event, event_in, Notes, History}
+use Rattle.sessions.specs.Alone.{loses, loses_memory, AreAlikeFor, SameFor, EachDocumentIsAlone, EachRunHasAHistory, HistoriesDecide, Event, event_in, Notes, History}
 use Rattle.sessions.specs.Answers.{but_nodes}
-use Rattle.sessions.specs.Documents.{DocumentState, is_open, is_lost, Held, has_room}
+use Rattle.sessions.specs.Documents.{is_open, is_lost, Held, has_room}
 use Rattle.sessions.specs.Fresh.{Publishes}
 use Rattle.sessions.specs.Runs.{Run}
 use Rattle.sessions.specs.Steps.{State, first_state, Step}
-use Rattle.sessions.specs.declared.phase.Phase.{Phase}
-use Rattle.sessions.specs.declared.phase.Phase.TheVariants.{New, Ready, Down}
+use Rattle.sessions.specs.declared.phase.Phase.TheVariants.{New, Ready}
 
 abbrev uri : List ℕ
 uri = codes "a:x"

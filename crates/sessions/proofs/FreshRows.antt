@@ -1,9 +1,9 @@
 -- A session that opens the empty text as sums: what is published, what a fresh server says, and uses of the laws of freshness.
 use Rattle.std.specs.Char.{encode_utf8}
 use Rattle.std.specs.FinMap.{empty, get, insert, len, contains_key, get-empty, get-insert, len-empty}
-use Rattle.std.specs.Prelude.{◌≡◌, ◌≢◌, ◌⊎◌, ℕ, ℤ, pos, Bool, true, false, ◌||◌, nat_lt, List, [], ◌∷◌, ◌++◌, length, All, codes, refl, Option, Some, None, MatchOption, slice_index}
+use Rattle.std.specs.Prelude.{◌≡◌, ◌⊎◌, ℕ, pos, Bool, true, false, ◌||◌, nat_lt, List, [], ◌∷◌, ◌++◌, length, All, codes, refl, Option, Some, None, slice_index}
 use Rattle.std.specs.Str.{chars, is_utf8}
-use Rattle.std.proofs.Common.{ap, arith, inl, inr, sym, subst, ◌∙◌}
+use Rattle.std.proofs.Common.{ap, arith, sym, subst, ◌∙◌}
 use Rattle.std.proofs.lemmas.Cmp.{nat_list_cmp_total}
 use Rattle.std.proofs.lemmas.List.Elements.{All-nil, All-cons}
 use Rattle.definitions.specs.Answers.{message}
@@ -17,18 +17,17 @@ use Rattle.readings.specs.Grammars.{FileGrammar}
 use Rattle.readings.specs.Texts.{LastEdit, OpenDocument}
 use Rattle.rpc.specs.Ids.{Ident, numbered}
 use Rattle.rpc.specs.Loss.TheVariants as loss
-use Rattle.rpc.specs.Messages.{Received, TextChange, initialize, about, its_text, its_tokens, open_text, change_text, request, notification, accepted}
+use Rattle.rpc.specs.Messages.{Received, TextChange, initialize, about, its_text, open_text, change_text, request, notification, accepted}
 use Rattle.rpc.specs.Reading.{received_in}
-use Rattle.rpc.specs.Refusal.TheVariants as refusal
-use Rattle.rpc.specs.Replies.{Answer, capabilities_reply, error_reply, null_reply, text_reply, published_diagnostics}
-use Rattle.rpc.specs.Unit.TheVariants.{Utf8, Utf16}
+use Rattle.rpc.specs.Replies.{Answer, capabilities_reply, null_reply, text_reply, published_diagnostics}
+use Rattle.rpc.specs.Unit.TheVariants.{Utf16}
 use Rattle.serde_json.proofs.OnLiterals.{serde_json_on_literals}
 use Rattle.sessions.specs.Answers.{shown, IsPublished, IsAnswer}
 use Rattle.sessions.specs.Documents.{DocumentState, is_open, is_lost, Held, has_room}
 use Rattle.sessions.specs.Fresh.{IsFresh, RepliesOnly, AnswerAlike, Publishes, IsLastPublished, EveryAnswerIsFresh, EachTextIsItsEdits}
 use Rattle.sessions.specs.Runs.{Run}
 use Rattle.sessions.specs.Steps.{State, first_state, new_document, Step, Opens, Holds}
-use Rattle.sessions.specs.declared.phase.Phase.TheVariants.{New, Ready, Down}
+use Rattle.sessions.specs.declared.phase.Phase.TheVariants.{Ready, Down}
 
 abbrev uri : List ℕ
 uri = codes "a:x"

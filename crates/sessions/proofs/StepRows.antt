@@ -1,13 +1,9 @@
 -- What a step, a change and the end of a session leave, and what they don't: one row for each part that is given, and one that is refused.
 use Rattle.std.specs.Char.{encode_utf8}
-use Rattle.std.specs.FinMap.{empty, get, insert, remove, get-empty, get-insert}
-use Rattle.std.specs.Prelude.{◌≡◌, ◌⊎◌, ℕ, ℤ, pos, Bool, true, false, List, [], ◌∷◌, ◌++◌, codes, refl, Option, Some, None, Ok, Err}
-use Rattle.std.specs.Str.{chars, is_utf8}
-use Rattle.std.proofs.Common.{ap, arith, inl, inr, sym, subst, ◌∙◌}
-use Rattle.std.proofs.lemmas.Cmp.{nat_list_cmp_total}
-use Rattle.definitions.specs.declared.Position.{Position}
-use Rattle.definitions.specs.declared.Range.{Range}
-use Rattle.definitions.specs.declared.Stats.{Stats}
+use Rattle.std.specs.FinMap.{empty, insert, remove, get-empty}
+use Rattle.std.specs.Prelude.{◌≡◌, ℕ, pos, true, false, List, [], ◌∷◌, ◌++◌, codes, refl, Option, Some, None, Ok, Err}
+use Rattle.std.specs.Str.{chars}
+use Rattle.std.proofs.Common.{ap, inl, inr, sym, subst, ◌∙◌}
 use Rattle.definitions.specs.Text.{changed, offset, position, line_of, line_start, line_from, break_ends, units, greatest}
 use Rattle.frames.specs.Frames.{Open, Faulty}
 use Rattle.frames.specs.declared.fault.FrameFault.TheVariants.{BadField, Truncated}
@@ -17,19 +13,19 @@ use Rattle.readings.proofs.SumsRows.{sums_file}
 use Rattle.readings.specs.Answers.{written_tree}
 use Rattle.readings.specs.Edits.{AreStats}
 use Rattle.readings.specs.Grammars.{FileGrammar}
-use Rattle.readings.specs.Texts.{LastEdit, OpenDocument}
+use Rattle.readings.specs.Texts.{OpenDocument}
 use Rattle.rpc.specs.Ids.{Ident, numbered}
 use Rattle.rpc.specs.Log.TheVariants as log
 use Rattle.rpc.specs.Loss.TheVariants as loss
-use Rattle.rpc.specs.Messages.{TextChange, Received, about, stats, its_text, its_tokens, its_tree, its_folds, its_selections, request, notification, open_text, exit, unfit_open, unfit_change, accepted, invalid, unknown, params, refused}
+use Rattle.rpc.specs.Messages.{TextChange, about, stats, its_text, its_tokens, its_tree, its_folds, its_selections, notification, open_text, exit, unfit_open, unfit_change, accepted, invalid, unknown, params, refused}
 use Rattle.rpc.specs.Refusal.TheVariants as refusal
-use Rattle.rpc.specs.Replies.{Answer, null_reply, text_reply, tokens_reply, tree_reply, stats_reply, folds_reply, selections_reply, error_reply, published_diagnostics, log_message}
+use Rattle.rpc.specs.Replies.{null_reply, text_reply, tokens_reply, tree_reply, stats_reply, folds_reply, selections_reply, error_reply, published_diagnostics, log_message}
 use Rattle.rpc.specs.Unit.TheVariants.{Utf8, Utf16}
-use Rattle.sessions.specs.Answers.{tree_answer, IsAnswerOf, IsAnswer, IsCount, shown}
+use Rattle.sessions.specs.Answers.{tree_answer, IsAnswerOf, IsAnswer, IsCount}
 use Rattle.sessions.specs.Documents.{DocumentState, is_open, is_lost, Held, edited, IsLastAfter, Becomes, has_room}
 use Rattle.sessions.specs.Sessions.{AppendsPrefix, IsWritten, Ends}
-use Rattle.sessions.specs.Steps.{State, first_state, Replies, RepliesSome, Enters, Ignores, Logs, Leaves, Holds, Forgets, Stops, OnRequest, new_document, Opens, Changes, Closes, Spoils, OnMalformed, OnNotification, Step}
-use Rattle.sessions.specs.declared.fault.RunFault.TheVariants.{Frame, Read, Write, Memory}
+use Rattle.sessions.specs.Steps.{State, Replies, RepliesSome, Enters, Ignores, Logs, Leaves, Holds, Forgets, Stops, OnRequest, new_document, Opens, Changes, Closes, Spoils, OnMalformed, OnNotification, Step}
+use Rattle.sessions.specs.declared.fault.RunFault.TheVariants.{Frame, Read, Memory}
 use Rattle.sessions.specs.declared.phase.Phase.{Phase}
 use Rattle.sessions.specs.declared.phase.Phase.TheVariants.{New, Ready, Down}
 
