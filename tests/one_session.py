@@ -113,20 +113,47 @@ def input_of(session):
     return b"".join(framed(message) for message, _ in session)
 
 
+def closed():
+    """The message that closes the document, and what it is answered."""
+    document = {"textDocument": {"uri": URI}}
+    return note("textDocument/didClose", document), note("textDocument/publishDiagnostics", {"diagnostics": [], "uri": URI})
+
+
+def lost(cause):
+    """What is sent where the document is lost, by the log message of the cause."""
+    return [
+        note("textDocument/publishDiagnostics", {"diagnostics": [], "uri": URI}),
+        note("window/logMessage", {"message": cause, "type": 1}),
+    ]
+
+
+def refused(message, cause):
+    """The reply to a request about the lost document."""
+    return {"error": {"code": -32803, "message": cause}, "id": message["id"], "jsonrpc": "2.0"}
+
+
+def answers(answer):
+    """The messages that an answer is: none, one, or all of a list."""
+    return answer if isinstance(answer, list) else [] if answer is None else [answer]
+
+
+def after_loss(session):
+    """What is sent in the rest of a session, before which the document was lost for want of memory, until it is opened or closed."""
+    is_lost = True
+    for message, answer in session:
+        is_about = "textDocument" in message.get("params", {})
+        if message["method"] in ("textDocument/didOpen", "textDocument/didClose"):
+            is_lost = False
+        if is_lost and message["method"] == "textDocument/didChange":
+            continue
+        yield from [refused(message, LOSS)] if is_lost and is_about else answers(answer)
+
+
 def outputs(session):
     """What a session may write where memory is refused: first all answers, then those where one of its changes has lost the
     document. Fronts of these are written where the program ends."""
-    yield written(answer for _, answer in session if answer is not None)
+    yield written(it for _, answer in session for it in answers(answer))
     for place, (message, _) in enumerate(session):
-        if message["method"] != "textDocument/didChange":
-            continue
-        reported = [answer for _, answer in session[:place]]
-        reported.append(note("textDocument/publishDiagnostics", {"diagnostics": [], "uri": URI}))
-        reported.append(note("window/logMessage", {"message": LOSS, "type": 1}))
-        for later, answer in session[place + 1 :]:
-            if later["method"] == "textDocument/didChange":
-                answer = None
-            elif "textDocument" in later.get("params", {}):
-                answer = {"error": {"code": -32803, "message": LOSS}, "id": later["id"], "jsonrpc": "2.0"}
-            reported += [] if answer is None else [answer]
-        yield written(reported)
+        if message["method"] == "textDocument/didChange":
+            before = [it for _, answer in session[:place] for it in answers(answer)]
+            yield written([*before, *lost(LOSS), *after_loss(session[place + 1 :])])

@@ -4,7 +4,7 @@ A refused allocation has to end the program with `lrls: no memory`, lose the doc
 and all that was written before has to be right. A library that is loaded before all others refuses them, and counts how many
 there are. Of a row with more of them than its `most`, only some are refused: the first and the last ones, others between them at
 even distances, and every eighth of the last 200, among which are those of a session's changes. tests/program runs this as its
-group `refusals`, bench/refusals by itself; on four processors it takes half a minute. Needs a C compiler, and a system with
+group `refusals`, bench/refusals by itself; on four processors it takes about a minute. Needs a C compiler, and a system with
 LD_PRELOAD and glibc.
 """
 
@@ -12,9 +12,26 @@ import concurrent.futures
 import os
 import shutil
 import subprocess
+from typing import Iterator, List, NamedTuple
 
 from cases import placed, read
-from one_session import SESSION, asked, change, edited, input_of, opened, outputs, published, replied, talk
+from marked import HEAD
+from one_session import (
+    EMPTY_RANGE,
+    SESSION,
+    asked,
+    change,
+    closed,
+    edited,
+    input_of,
+    lost,
+    opened,
+    outputs,
+    published,
+    refused,
+    replied,
+    talk,
+)
 from serving import PATIENCE, PROGRAM, SUMS
 
 LISTS = """lrgrammar 1
@@ -55,7 +72,7 @@ __attribute__((destructor)) static void count_them(void) {
     }
 }
 """
-SMALL, LARGE = 1_000, 24
+SMALL, WIDE, LARGE = 1_000, 900, 24
 
 
 def library(folder):
@@ -99,11 +116,138 @@ def tree_of_sum(numbers):
     return (first + " PLUS (Atom NUM))" * (numbers - 1) + "\n").encode()
 
 
-def rows(folder):
-    """Each row: its name, the words, the input, the outputs that may be, its status, and how many allocations are refused."""
-    lists = placed(folder, "lists.lr", LISTS.encode())
+class Row(NamedTuple):
+    """A program that is run, what may come of it where memory is refused, and how many of its allocations are refused."""
+
+    name: str
+    words: List[str]
+    text: bytes
+    outputs: List[bytes]
+    error: bytes
+    status: int
+    most: int
+
+
+# What two numbers in parentheses over three lines are answered: tokens, tree, folds, and the selections of the first number.
+PARENTHESES = "(\n1+2)"
+TOKENS = [
+    ["LP", 0, 0, 0, 1],
+    ["WS", 0, 1, 1, 0],
+    ["NUM", 1, 0, 1, 1],
+    ["PLUS", 1, 1, 1, 2],
+    ["NUM", 1, 2, 1, 3],
+    ["RP", 1, 3, 1, 4],
+]
+TREE = "(Sum (Atom LP (Sum (Sum (Atom NUM)) PLUS (Atom NUM)) RP))"
+
+
+def between(first, last, parent=None):
+    """A selection between two places, each a line and a character, within another one."""
+    ends = [{"character": character, "line": line} for line, character in (last, first)]
+    return {**({"parent": parent} if parent else {}), "range": {"end": ends[0], "start": ends[1]}}
+
+
+def views():
+    """A session that asks for each view of a text, with its faults, and closes it."""
+    around = between((1, 0), (1, 1), between((1, 0), (1, 3), between((0, 0), (1, 4))))
+    counts = {"branches": 6, "built": 6, "edit": 0, "nodes": 6, "scanned": 6, "tokens": 6}
+    fault = {"message": "unexpected end; expected NUM, LP", "range": EMPTY_RANGE, "severity": 1, "source": "lrls"}
+    return talk(
+        (opened(PARENTHESES), published(1, [])),
+        (asked("lr/tokens"), replied(TOKENS)),
+        (asked("lr/tree"), replied(TREE)),
+        (asked("lr/stats"), replied(counts)),
+        (asked("textDocument/foldingRange"), replied([{"endLine": 1, "startLine": 0}])),
+        (asked("textDocument/selectionRange", {"positions": [{"line": 1, "character": 0}] * 3}), replied([around] * 3)),
+        (edited(2, {"text": ""}), published(2, [fault])),
+        (asked("lr/tree"), replied(None)),
+        closed(),
+        (opened("1"), published(1, [])),
+        closed(),
+    )
+
+
+def compacted(numbers, kept):
+    """A session in which a sum of so many numbers is cut down to the first of them. The number before the cut has looked at what was
+    there, so it is scanned anew, with its two nodes. The nodes of the others are given up, since there may be twice as many as the
+    trees have and 1,024 more."""
+    text, rest = "1+" * (numbers - 1) + "1", "1+" * (kept - 1) + "1"
+    branches = 2 * kept
+    counts = {"branches": branches, "built": 2, "edit": 1, "nodes": branches, "scanned": 1, "tokens": 2 * kept - 1}
+    return talk(
+        (opened(text), published(1, [])),
+        (edited(2, change(len(rest), len(text), "")), published(2, [])),
+        (asked("lr/stats"), replied(counts)),
+        (asked("lr/text"), replied({"text": rest, "version": 2})),
+    )
+
+
+def apart():
+    """A session with messages of several changes, at places apart and at one place."""
+    text = "+".join("1" * 60)
+    ends = [change(118, 119, "23"), change(60, 61, "45"), change(0, 1, "67"), change(0, 2, "8")]
+    after = "8" + text[1:60] + "45" + text[61:118] + "23"
+    return talk(
+        (opened(text), published(1, [])),
+        (edited(2, *ends), published(2, [])),
+        (edited(3, change(0, 0, "9+"), change(2, 3, "(7)"), change(40, 40, "6")), published(3, [])),
+        (asked("lr/text"), replied({"text": inserted("9+(7)" + after[1:], 40, "6"), "version": 3})),
+    )
+
+
+def inserted(text, place, more):
+    return text[:place] + more + text[place:]
+
+
+def full():
+    """A text with room for one digit: one is typed in, another is one too many, and the text is opened anew."""
+    at_first = change(0, 0, "1")
+    again = asked("textDocument/foldingRange")
+    cause = "document lost: too large"
+    return talk(
+        (opened("1" * 1_048_575), published(1, [])),
+        (edited(2, at_first), published(2, [])),
+        (edited(3, at_first), lost(cause)),
+        (again, refused(again, cause)),
+        (opened("1"), published(1, [])),
+        (asked("lr/text"), replied({"text": "1", "version": 1})),
+    )
+
+
+ONE = "lrgrammar 1\n"
+GOOD = 'token X = "x"\nstart S\nS = X\n'
+CONFLICT = b"lrls: conflict on end\nafter: X\nitem: S = X ., end\nitem: T = X ., end\n"
+
+# Grammar files: what is printed of each on standard output and on standard error, and the status.
+GRAMMARS = {
+    "a name that is defined twice": (ONE + GOOD + 'token X = "y"\n', b"", b"lrls: line 5: G3 defined twice: X\n", 2),
+    "a name that isn't defined": (ONE + GOOD + "S = X Y\n", b"", b"lrls: line 5: G4 undefined: Y\n", 2),
+    "a reserved name": (ONE + GOOD + "S = X end\n", b"", b"lrls: line 5: G5 reserved: end\n", 2),
+    "a start that is a token": (ONE + 'token X = "x"\nstart X\nS = X\n', b"", b"lrls: line 3: G8 not a nonterminal: X\n", 2),
+    "a nonterminal without a text": (ONE + 'token X = "x"\nstart A\nA = A X\n', b"", b"lrls: line 4: G9 unproductive: A\n", 2),
+    "a skip token in a production": (
+        ONE + "skip W = [ ]+\nstart S\nS = W\n",
+        b"",
+        b"lrls: line 4: G10 skip token in a production: W\n",
+        2,
+    ),
+    "a conflict": (ONE + 'token X = "x"\nstart S\nS = X\nS = T\nT = X\n', b"", CONFLICT, 2),
+    "notes": (ONE + GOOD + 'token Y = "y"\nT = Y\n', b"note: unreachable Y\nnote: unreachable T\nok\n", b"", 0),
+    "marked words": (HEAD + "S = A* T?\nT = B+\n", b"ok\n", b"", 0),
+}
+
+
+def checks(folder: str) -> Iterator[Row]:
+    """The runs of `check`."""
+    yield Row("check", ["check", SUMS], b"", [b"ok\n"], b"", 0, SMALL)
+    for name, (text, out, error, status) in GRAMMARS.items():
+        path = placed(folder, f"grammar of {name}", text.encode())
+        yield Row(f"check of {name}", ["check", path], b"", [out], error, status, SMALL)
+
+
+def parses(folder: str) -> Iterator[Row]:
+    """The runs of `parse`."""
     fault = b"0:2-0:3: unexpected NUM; expected PLUS, end\n"
-    yield "check", ["check", SUMS], b"", [b"ok\n"], 0, SMALL
     for name, text, printed, status, most in [
         ("a sum", b"1+2", tree_of_sum(2), 0, SMALL),
         ("a fault", b"1 2", fault, 1, SMALL),
@@ -111,19 +255,29 @@ def rows(folder):
         ("a sum of 524,288 numbers", b"1+" * 524_287 + b"1", tree_of_sum(524_288), 0, LARGE),
     ]:
         path = placed(folder, f"text {name}", text)
-        yield f"parse of {name}", ["parse", SUMS, path], b"", [printed], status, most
-    full = talk(
-        (opened("1" * 1_048_575), published(1, [])),
-        (edited(2, change(0, 0, "1")), published(2, [])),
-    )
+        yield Row(f"parse of {name}", ["parse", SUMS, path], b"", [printed], b"", status, most)
+
+
+def sessions(folder: str) -> Iterator[Row]:
+    """The runs of `serve`."""
+    lists = placed(folder, "lists.lr", LISTS.encode())
     for name, grammar, session, most in [
         ("a session", SUMS, SESSION, SMALL),
         ("quotation marks", lists, quotes(), SMALL),
-        ("a document of 1 MiB", SUMS, full, LARGE),
+        ("each view, and a text that is closed", SUMS, views(), SMALL),
+        ("nodes that are given up", SUMS, compacted(1_000, 100), SMALL),
+        ("changes apart", SUMS, apart(), SMALL),
+        ("a text with room for one digit", SUMS, full(), WIDE),
         ("a sum of 20,001 numbers", SUMS, grown(20_001, 20_000), LARGE),
         ("a sum of 524,286 numbers", SUMS, grown(524_286, 524_288), LARGE),
     ]:
-        yield name, ["serve", grammar], input_of(session), list(outputs(session)), 0, most
+        yield Row(name, ["serve", grammar], input_of(session), list(outputs(session)), b"", 0, most)
+
+
+def rows(folder: str) -> Iterator[Row]:
+    yield from checks(folder)
+    yield from parses(folder)
+    yield from sessions(folder)
 
 
 def places(count, most):
@@ -150,33 +304,32 @@ def run(words, path, **names):
     return done.stdout, done.stderr, done.returncode
 
 
-def end_of(ended, allowed, status):
+def end_of(ended, row):
     """How a run ended: for want of memory, with a lost document, as ever, or else what was wrong."""
     out, err, code = ended
-    if (err, code) == (b"", status) and out in allowed:
-        return "as ever" if out == allowed[0] else "lost"
-    if (err, code) == (b"lrls: no memory\n", 1) and any(output.startswith(out) for output in allowed):
+    if (err, code) == (row.error, row.status) and out in row.outputs:
+        return "as ever" if out == row.outputs[0] else "lost"
+    if (err, code) == (b"lrls: no memory\n", 1) and any(output.startswith(out) for output in row.outputs):
         return "no memory"
     return f"wrong: status {code}, standard error {err[:200]}, {len(out)} bytes of output, at its end {out[-60:]}"
 
 
 def refuse(loaded, folder, row):
     """The ends of a row's runs: for each the number of the refused allocation, whether all later ones were refused, and the end."""
-    _, words, text, allowed, status, most = row
     counted = os.path.join(folder, "counted")
-    path = placed(folder, "input", text)
-    whole = run(words, path, LD_PRELOAD=loaded, COUNTED=counted)
-    if end_of(whole, allowed, status) != "as ever" or not os.path.exists(counted):
-        return 0, [(0, False, f"nothing refused: {end_of(whole, allowed, status)}")]
+    path = placed(folder, "input", row.text)
+    whole = run(row.words, path, LD_PRELOAD=loaded, COUNTED=counted)
+    if end_of(whole, row) != "as ever" or not os.path.exists(counted):
+        return 0, [(0, False, f"nothing refused: {end_of(whole, row)}")]
     count = int(read(counted))
     os.remove(counted)
 
     def one(task):
         place, on = task
         names = {"REFUSED_ON": "1"} if on else {}
-        return place, on, end_of(run(words, path, LD_PRELOAD=loaded, REFUSED=str(place), **names), allowed, status)
+        return place, on, end_of(run(row.words, path, LD_PRELOAD=loaded, REFUSED=str(place), **names), row)
 
-    tasks = [(place, on) for on in (False, True) for place in places(count, most)]
+    tasks = [(place, on) for on in (False, True) for place in places(count, row.most)]
     with concurrent.futures.ThreadPoolExecutor(os.cpu_count()) as pool:
         return count, list(pool.map(one, tasks))
 
@@ -190,6 +343,6 @@ def results(folder):
         counts = {end: [found for _, _, found in ends].count(end) for end in ("no memory", "lost", "as ever")}
         wrong = [f"allocation {place}{' and later ones' * on}: {end}" for place, on, end in ends if end not in counts]
         wrong += ["none ends with `no memory`"] * (counts["no memory"] == 0)
-        wrong += ["none loses the document"] * (len(row[3]) > 1 and counts["lost"] == 0)
+        wrong += ["none loses the document"] * (len(row.outputs) > 1 and counts["lost"] == 0)
         wrong += ["not as ever after the last allocation"] * any(place > count and end != "as ever" for place, _, end in ends)
-        yield row[0], count, counts, wrong
+        yield row.name, count, counts, wrong
