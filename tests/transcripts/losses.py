@@ -77,6 +77,24 @@ CHANGES_THAT_FIT = {
 < {"jsonrpc":"2.0","method":"textDocument/publishDiagnostics","params":{"diagnostics":[],"uri":"a:x"}}
 < {"jsonrpc":"2.0","method":"window/logMessage","params":{"message":"document lost: too large","type":1}}
 """,
+    "the second of three changes is refused, where the first one stands": r"""
+> {"jsonrpc":"2.0","method":"textDocument/didOpen","params":{"textDocument":{"uri":"a:x","languageId":"g","version":1,"text":"@"}}}
+< {"jsonrpc":"2.0","method":"textDocument/publishDiagnostics","params":{"diagnostics":[],"uri":"a:x","version":1}}
+> {"jsonrpc":"2.0","method":"textDocument/didChange","params":{"textDocument":{"uri":"a:x","version":2},"contentChanges":[{"range":{"start":{"line":0,"character":0},"end":{"line":0,"character":0}},"text":"1"},{"range":{"start":{"line":0,"character":1},"end":{"line":0,"character":1}},"text":"1"},{"range":{"start":{"line":0,"character":0},"end":{"line":0,"character":2}},"text":""}]}}
+< {"jsonrpc":"2.0","method":"textDocument/publishDiagnostics","params":{"diagnostics":[],"uri":"a:x"}}
+< {"jsonrpc":"2.0","method":"window/logMessage","params":{"message":"document lost: too large","type":1}}
+> {"jsonrpc":"2.0","id":2,"method":"lr/text","params":{"textDocument":{"uri":"a:x"}}}
+< {"error":{"code":-32803,"message":"document lost: too large"},"id":2,"jsonrpc":"2.0"}
+""",
+    "the second of three changes is refused, apart from the first one": r"""
+> {"jsonrpc":"2.0","method":"textDocument/didOpen","params":{"textDocument":{"uri":"a:x","languageId":"g","version":1,"text":"@"}}}
+< {"jsonrpc":"2.0","method":"textDocument/publishDiagnostics","params":{"diagnostics":[],"uri":"a:x","version":1}}
+> {"jsonrpc":"2.0","method":"textDocument/didChange","params":{"textDocument":{"uri":"a:x","version":2},"contentChanges":[{"range":{"start":{"line":0,"character":0},"end":{"line":0,"character":0}},"text":"1"},{"range":{"start":{"line":0,"character":500000},"end":{"line":0,"character":500000}},"text":"1"},{"range":{"start":{"line":0,"character":0},"end":{"line":0,"character":2}},"text":""}]}}
+< {"jsonrpc":"2.0","method":"textDocument/publishDiagnostics","params":{"diagnostics":[],"uri":"a:x"}}
+< {"jsonrpc":"2.0","method":"window/logMessage","params":{"message":"document lost: too large","type":1}}
+> {"jsonrpc":"2.0","id":2,"method":"lr/text","params":{"textDocument":{"uri":"a:x"}}}
+< {"error":{"code":-32803,"message":"document lost: too large"},"id":2,"jsonrpc":"2.0"}
+""",
     "the first of two changes makes room for the second": r"""
 > {"jsonrpc":"2.0","method":"textDocument/didOpen","params":{"textDocument":{"uri":"a:x","languageId":"g","version":1,"text":"@"}}}
 < {"jsonrpc":"2.0","method":"textDocument/publishDiagnostics","params":{"diagnostics":[],"uri":"a:x","version":1}}
