@@ -1,5 +1,5 @@
 -- What the proofs of this crate cite of definitions, of types and of other crates, passed on from one place. Declares nothing.
-pub use Rattle.std.proofs.Common.{◌++◌, ◌+◌, ◌-◌, ◌<◌, ◌==◌, ◌↔◌, ◌∙◌, ◌∷◌, ◌≡◌, ◌≤◌, ◌⊎◌, All, Bool, Err, List, MatchOption, None, Option, Some, Vec, [], ap, arith, cond, drop, encode_utf8, false, filter, get_or, if◌then◌else◌, inl, inr, le-ltb, leb-false, leb-true, length, map, min, nat_lt, not, option_map, refl, rules, slice_range, subst, suc, sym, take, true, unwrap_or, zero, ℕ, ⊎_elim}
+pub use Rattle.std.proofs.Common.{◌++◌, ◌+◌, ◌-◌, ◌<◌, ◌^◌, ◌==◌, ◌↔◌, ◌∙◌, ◌∷◌, ◌≡◌, ◌≤◌, ◌⊎◌, All, Bool, Err, List, MatchOption, None, Option, Some, Vec, [], ap, arith, cond, drop, encode_utf8, false, filter, get_or, if◌then◌else◌, inl, inr, le-ltb, leb-false, leb-true, length, map, max, min, nat_lt, not, option_map, refl, rules, slice_range, subst, suc, sym, take, true, zero, ℕ, ⊎_elim}
 pub use Rattle.std.specs.Prelude.{IfOk, IsErrAnd, Ok, Result, encode_utf8_all, nat_le}
 pub use Rattle.std.specs.Global.{Global}
 pub use Rattle.std.specs.List.{AllByRecursion}
@@ -31,7 +31,7 @@ pub use Rattle.definitions.specs.declared.Stats.{Stats}
 pub use Rattle.definitions.specs.declared.Unit.{Unit as Encoding}
 pub use Rattle.docs.specs.Docs.{IsCurrent, last_edit, open_document}
 pub use Rattle.docs.specs.Faults.{doc_fault}
-pub use Rattle.docs.specs.Pending.{number_or}
+pub use Rattle.docs.specs.Pending.{IsApart, joined, next_pending, number_or, pending_number}
 pub use Rattle.docs.specs.Settling.{IsSettled, LeadsTo}
 pub use Rattle.docs.specs.Stamps.{AreStamped, splice_between}
 pub use Rattle.docs.specs.declared.doc.Doc.{Doc}

@@ -1,5 +1,5 @@
 -- Edits that follow each other, as one edit.
-use Rattle.docs.proofs.Common.{◌≡◌, ◌≤◌, ◌+◌, ◌-◌, ℕ, List, [], ◌++◌, length, take, drop, sym, ap, ◌∙◌, arith, Option, Some, None, MatchOption, unwrap_or, append-nil, append_assoc, drop-drop, drop-take, length-append, length-drop, length-take, take_at, take-append-drop, take-take, Edit, edit, drop-edit, length-edit, LeadsTo}
+use Rattle.docs.proofs.Common.{◌≡◌, ◌≤◌, ◌+◌, ◌-◌, ℕ, List, [], ◌++◌, length, take, drop, sym, ap, ◌∙◌, arith, Option, Some, None, MatchOption, refl, subst, max, append-nil, append_assoc, drop-drop, drop-take, length-append, length-drop, length-take, take_at, take-append-drop, take-take, Edit, edit, drop-edit, length-edit, LeadsTo, joined, le-max_left, le-max_right, max-le, min-le_left, min-le_right}
 
 -- what an edit inserts lies within the text after it
 pub inserted_within : (was now : List ℕ) (e : Edit) → LeadsTo was e now → e.at + e.inserted ≤ length now
@@ -16,7 +16,7 @@ module _ (was now s : List ℕ) (first both : Edit) (from to end : ℕ) (leads :
   piece = take (from - both.at) (drop both.at now) ++ s ++ take (end - to) (drop to now)
 
   module _ (ordered : from ≤ to) (inside : to ≤ length now) (left : both.at ≤ first.at) (before : both.at ≤ from) (right : to ≤ end)
-      (past : first.at + first.inserted ≤ end) (far : end ≤ length now) (removed : both.removed ≡ end - first.inserted + first.removed - both.at)
+      (past : first.at + first.inserted ≤ end) (far : end ≤ length now) (removed : both.removed ≡ end - both.at - first.inserted + first.removed)
       (inserted : both.inserted ≡ end - both.at - (to - from) + length s) where
     long : length now + (first.at + first.removed) ≡ length was + first.at + first.inserted
     long = omega (arith, length-edit was leads.0 first.at (first.at + first.removed) (omega arith) leads.1, ap length leads.3, leads.2)
@@ -81,12 +81,19 @@ module _ (was now s : List ℕ) (first both : Edit) (from to end : ℕ) (leads :
           ∙ assoc_all (take both.at was) (take (from - both.at) (drop both.at now)) (take (end - to) (drop to now)) (drop (both.at + both.removed) was)),
     )
 
--- where nothing is pending, an edit that changes nothing leads to the text
-pub leads_first : (o : Option Edit) (was now : List ℕ) (nothing : Edit) → nothing.at ≤ length now → nothing.removed ≡ 0 → nothing.inserted ≡ 0 → MatchOption o (now ≡ was) (λ e. LeadsTo was e now)
-    → LeadsTo was (unwrap_or o nothing) now
-leads_first None was now nothing within none no_piece same =
-    let end : nothing.at + nothing.removed ≡ nothing.at = omega (arith, none) in
-    let whole = take-append-drop nothing.at was in
-    let start = ap (λ l. l ++ drop (nothing.at + nothing.removed) was) (sym (append-nil (take nothing.at was))) in
-    ([], omega (arith, within, end, ap length same), no_piece, same ∙ (sym whole ∙ (ap (λ n. take nothing.at was ++ drop n was) (sym end) ∙ start)))
-leads_first (Some e) was now nothing within none no_piece leads = leads
+-- what waits leads from a text to another, and the change from this one to a third: together they lead from the first to the third
+pub joined_leads : (waiting : Option Edit) (e : Edit) (was mid now : List ℕ) → MatchOption waiting (mid ≡ was) (λ first. LeadsTo was first mid) → LeadsTo mid e now
+    → LeadsTo was (joined waiting e) now
+joined_leads None e was mid now same second = subst (λ (t : List ℕ). LeadsTo t e now) same second
+joined_leads (Some first) e was mid now leads second =
+    let to = e.at + e.removed in
+    let end = max (first.at + first.inserted) to in
+    let past = le-max_left (first.at + first.inserted) to in
+    let far = max-le (inserted_within was mid first leads) second.1 in
+    let removed : to - e.at ≡ e.removed = omega arith in
+    let inserted : (joined (Some first) e).inserted ≡ end - (joined (Some first) e).at - (to - e.at) + length second.0 = omega (arith, removed, second.2) in
+    subst
+    (λ (t : List ℕ). LeadsTo was (joined (Some first) e) t)
+    (sym second.3)
+    (leads_by_both was mid second.0 first (joined (Some first) e) e.at to end leads (omega arith) second.1 (min-le_left first.at e.at) (min-le_right first.at e.at)
+    (le-max_right (first.at + first.inserted) to) past far refl inserted)

@@ -1,14 +1,14 @@
 //! A document with pending changes: its text is ahead of its tokens and of its parse, so that many
 //! changes cost one scan.
 
-ghost use Rattle.std.specs.Prelude.{◌≡◌, ◌+◌, ◌<◌, ◌≤◌, ◌^◌, ℕ, List, Err, Some, true, false, IfOk, IfErr, OnOk, OnErr, length, min};
+ghost use Rattle.std.specs.Prelude.{◌≡◌, ◌⊎◌, ◌+◌, ◌<◌, ◌^◌, Err, true, false, IfOk, IfErr, OnOk, OnErr, MatchOption, min};
 ghost use Rattle.std.specs.Str.{chars};
-ghost use Rattle.definitions.specs.Text.{changed, edit};
+ghost use Rattle.definitions.specs.Text.{changed};
 ghost use Rattle.docs.specs.Docs.{last_edit, IsCurrent};
-ghost use Rattle.docs.specs.Settling.{LeadsTo};
+ghost use Rattle.docs.specs.Settling.{with_text};
 ghost use Rattle.readings.specs.Edits.{number_of};
 ghost use Rattle.docs.specs.Languages.{LanguageData};
-ghost use Rattle.docs.specs.Pending.{HasNone, IsPending, IsSettledAs, Waits, pending_document, pending_number, pending_text, pending_unit, pending_version};
+ghost use Rattle.docs.specs.Pending.{HasNone, IsApart, IsPending, IsSettledAs, Waits, joined, next_pending, pending_document, pending_number, pending_text, pending_unit, pending_version};
 ghost use Rattle.readings.specs.Texts.{fits};
 ghost use Rattle.docs.specs.declared.doc.DocFault.TheVariants.{Memory};
 
@@ -31,22 +31,23 @@ pub struct Pending {
     places: usize,
 }
 
-/// An edit, and after it one that puts so many characters in the place of those from `from` up to
-/// `to`, as one edit of this number.
-fn as_one_edit(first: Edit, from: usize, to: usize, inserted: usize, number: u64) -> Edit
-    requires ordered { from ≤ to }
-    requires small { first.at + first.removed + first.inserted + to + inserted < 2 ^ 63 }
-    ensures number { result.number ≡ number }
-    ensures leads { (was now s : List ℕ) → to ≤ length now → inserted ≡ length s
-        → LeadsTo was first now → LeadsTo was result (edit now from to s) }
+/// What waits, and after it a change, as one edit with the number of the change: from the smaller
+/// start of both up to the greater end.
+fn joined(waiting: Option<Edit>, change: Edit) -> Edit
+    requires small { MatchOption waiting Unit (λ first. first.at + first.removed + first.inserted
+        + (change.at + change.removed + change.inserted) < 2 ^ 63) }
+    ensures { result ≡ joined waiting change }
 {
-    let at = first.at.min(from);
-    let end = to.max(first.at + first.inserted);
+    let Some(first) = waiting else {
+        return change;
+    };
+    let at = first.at.min(change.at);
+    let long = (first.at + first.inserted).max(change.at + change.removed) - at;
     Edit {
         at,
-        removed: end - first.inserted + first.removed - at,
-        inserted: end - at - (to - from) + inserted,
-        number,
+        removed: long - first.inserted + first.removed,
+        inserted: long - change.removed + change.inserted,
+        number: change.number,
     }
 }
 
@@ -86,7 +87,7 @@ impl Pending {
     /// Whether a change of the characters from `from` up to `to` is scanned apart from the pending
     /// ones: it doesn't touch them.
     fn is_apart(&self, from: usize, to: usize) -> bool
-        ensures { HasNone self.now → result ≡ false }
+        ensures { result ≡ true → IsApart self.now from to }
     {
         match self.edit {
             Some(edit) => {
@@ -133,7 +134,10 @@ impl Pending {
         ensures unit { OnOk result (pending_unit self.new ≡ pending_unit self.old) }
         ensures version { OnOk result (pending_version self.new ≡ pending_version self.old) }
         ensures number { OnOk result (pending_number self.new ≡ pending_number self.old) }
-        ensures waits { OnOk result (Waits language.now self.old self.new) }
+        ensures waits { let doc = with_text self.new.doc self.old.doc.text in
+            let stays = (doc ≡ self.old.doc) × (self.new.edit ≡ self.old.edit) in
+            let settles = IsSettledAs language.now self.old doc × HasNone self.new in
+            OnOk result (stays ⊎ (IsApart self.old from to × settles)) }
         ensures pending { OnOk result (IsPending language.now self.new) }
         ensures refused { OnErr result (¬ HasNone self.old) }
     {
@@ -159,7 +163,8 @@ impl Pending {
         ensures version { OnOk result (pending_version self.new ≡ pending_version self.old) }
         ensures number { OnOk result
             (pending_number self.new ≡ min (pending_number self.old + 1) 18446744073709551615) }
-        ensures waits { OnOk result (Waits language.now self.old self.new) }
+        ensures waits { let change = next_pending self.old range (chars new.now) in
+            OnOk result (Waits language.now self.old change self.new) }
         ensures pending { OnOk result (IsPending language.now self.new) }
         ensures too_large { let old = self.old in
             let text = changed (pending_unit old) (pending_text old) range (chars new.now) in
@@ -173,15 +178,13 @@ impl Pending {
         let before = self.doc.text.len();
         self.doc.text.replace(alloc, from, to, new)?;
         let inserted = self.doc.text.len() - (before - (to - from));
-        let number = self.number().saturating_add(1);
-        // Where nothing is pending, nothing was changed at this place.
-        let first = self.edit.unwrap_or(Edit {
+        let change = Edit {
             at: from,
-            removed: 0,
-            inserted: 0,
-            number,
-        });
-        self.edit = Some(as_one_edit(first, from, to, inserted, number));
+            removed: to - from,
+            inserted,
+            number: self.number().saturating_add(1),
+        };
+        self.edit = Some(joined(self.edit, change));
         Ok(())
     }
 

@@ -11,3 +11,5 @@ mod facts;
 mod reads;
 #[cfg(test)]
 mod rows;
+#[cfg(test)]
+mod waiting;

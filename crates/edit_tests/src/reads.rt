@@ -107,7 +107,7 @@ fn reads_of(
 }
 
 /// `1` and so many times `+1`.
-fn sum_of(rt: &impl Abort, alloc: Global, count: usize) -> String {
+pub fn sum_of(rt: &impl Abort, alloc: Global, count: usize) -> String {
     let mut text = String::from_str(alloc, "1").expect(rt, "memory");
     for _ in 0..count {
         text.push_str("+1").expect(rt, "memory");
