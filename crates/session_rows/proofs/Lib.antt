@@ -1,5 +1,7 @@
-mod Known
+mod Digits
 mod FewBytes
+mod Known
+mod Received
 mod Sums
 mod TypedSession
-mod Digits
+mod Uses

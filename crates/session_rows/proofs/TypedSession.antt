@@ -45,69 +45,12 @@ use Rattle.sessions.specs.Documents.{DocumentState, is_open, is_lost, Held, Beco
 use Rattle.sessions.specs.Runs.{Run, bytes_of}
 use Rattle.sessions.specs.Steps.{State, Step, first_state, new_document, Opens, Holds, Changes}
 use Rattle.sessions.specs.declared.phase.Phase.TheVariants.{Ready, Down}
+use Rattle.session_rows.specs.Contents.{uri, of, initializes, opens, types, asks, shuts_down, exits, both_changes}
 use Rattle.session_rows.specs.Known.{ComesTo, CameEither}
 use Rattle.session_rows.specs.Written.{typed, typed_and_lost}
 use Rattle.session_rows.proofs.FewBytes.{Known, next, last}
+use Rattle.session_rows.proofs.Received.{initializes_is, opens_is, types_is, asks_is, shuts_down_is, exits_is}
 use Rattle.session_rows.proofs.Sums.{sums, skips, number, not_empty, at_first, no_tokens, one_kind}
-
--- ---- what is received
-
-abbrev uri : List ℕ
-uri = codes "a:x"
-
-abbrev of : ℕ → Ident
-of n = numbered (pos n)
-
-abbrev initializes : List ℕ
-initializes = codes "{\"jsonrpc\":\"2.0\",\"id\":1,\"method\":\"initialize\",\"params\":{}}"
-
-abbrev opens : List ℕ
-opens = codes "{\"jsonrpc\":\"2.0\",\"method\":\"textDocument/didOpen\",\"params\":{\"textDocument\":{\"uri\":\"a:x\",\"languageId\":\"g\",\"version\":1,\"text\":\"\"}}}"
-
-abbrev types : List ℕ
-types =
-    codes "{\"jsonrpc\":\"2.0\",\"method\":\"textDocument/didChange\",\"params\":{\"textDocument\":{\"uri\":\"a:x\",\"version\":2},"
-    ++ codes "\"contentChanges\":[{\"range\":{\"start\":{\"line\":0,\"character\":0},\"end\":{\"line\":0,\"character\":0}},\"text\":\"12\"},"
-    ++ codes "{\"range\":{\"start\":{\"line\":0,\"character\":0},\"end\":{\"line\":0,\"character\":1}},\"text\":\"\"}]}}"
-
-abbrev asks : List ℕ
-asks = codes "{\"jsonrpc\":\"2.0\",\"id\":2,\"method\":\"lr/text\",\"params\":{\"textDocument\":{\"uri\":\"a:x\"}}}"
-
-abbrev shuts_down : List ℕ
-shuts_down = codes "{\"jsonrpc\":\"2.0\",\"id\":3,\"method\":\"shutdown\"}"
-
-abbrev exits : List ℕ
-exits = codes "{\"jsonrpc\":\"2.0\",\"method\":\"exit\"}"
-
-abbrev both_changes : List TextChange
-both_changes =
-    record { range = Some (record { start = record { line = 0; character = 0 }; end = record { line = 0; character = 0 } }); text = codes "12" }
-    ∷ record { range = Some (record { start = record { line = 0; character = 0 }; end = record { line = 0; character = 1 } }); text = [] }
-    ∷ []
-
-initializes_is : received_in initializes ≡ accepted (request (of 1) (initialize Utf16))
-unfolding chars encode_utf8 is_utf8 serde_json_on_literals
-initializes_is = refl
-
-opens_is : received_in opens ≡ accepted (notification (open_text uri (pos 1) []))
-unfolding chars encode_utf8 is_utf8 serde_json_on_literals
-opens_is = refl
-
-types_is : received_in types ≡ accepted (notification (change_text uri (pos 2) both_changes))
-unfolding chars encode_utf8 is_utf8 serde_json_on_literals
-types_is = refl
-
-asks_is : received_in asks ≡ accepted (request (of 2) (about uri its_text))
-unfolding chars encode_utf8 is_utf8 serde_json_on_literals
-asks_is = refl
-
-shuts_down_is : received_in shuts_down ≡ accepted (request (of 3) shutdown)
-unfolding chars encode_utf8 is_utf8 serde_json_on_literals
-shuts_down_is = refl
-
-exits_is : received_in exits ≡ accepted (notification exit)
-unfolding chars encode_utf8 is_utf8 serde_json_on_literals
-exits_is = refl
 
 -- ---- what is published
 

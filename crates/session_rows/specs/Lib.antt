@@ -1,3 +1,5 @@
+pub mod Contents
 pub mod Known
 pub mod Parts
+pub mod Uses
 pub mod Written

@@ -7,8 +7,10 @@
 
 mod few_bytes;
 mod memory;
+mod promised;
 mod typed;
 
 pub use few_bytes::{cut_short, no_json, then_no_frame, two_lengths};
 pub use memory::{Ran, over};
+pub use promised::promised;
 pub use typed::typing;

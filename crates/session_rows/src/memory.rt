@@ -3,6 +3,7 @@
 ghost use Rattle.std.specs.Prelude.{ℕ, List, Some, if◌then◌else◌};
 ghost use Rattle.frames.specs.Frames.{Tail, Splits};
 ghost use Rattle.session_rows.specs.Known.{ComesTo};
+ghost use Rattle.session_rows.specs.Uses.{Promises};
 
 use docs::Language;
 use frames::{DeviceFault, Output, ReadInput, one_split, streams_go_on};
@@ -45,8 +46,9 @@ pub struct Ran {
 
 /// Runs a session over these bytes, after which the input ends.
 pub fn over(alloc: Global, language: Language, bytes: &[u8]) -> Ran
-    ensures { (contents : List (List ℕ)) (tail : Tail) → Splits bytes.now contents tail →
+    ensures session { (contents : List (List ℕ)) (tail : Tail) → Splits bytes.now contents tail →
         ComesTo language.file contents tail result.written.items result.result }
+    ensures promises { Promises language.file }
 {
     one_split();
     streams_go_on();
