@@ -1,101 +1,33 @@
-//! `frames` and `rpc`.
+//! Messages and replies: `rpc` and `replies`.
 
-ghost use Rattle.std.specs.Prelude.{◌≡◌};
+ghost use Rattle.std.specs.Prelude.{IfSome, ◌≡◌, IfOk, ℕ, List, All, ◌↔◌, IsTrue};
+ghost use Rattle.rpc.specs.Messages.{received_of, Received};
+ghost use Rattle.rpc.specs.Reading.{Receives};
+ghost use Rattle.serde_json.specs.Written.{compact_text};
+ghost use Rattle.replies.specs.Replies.{reply_data, reply_view};
+ghost use Rattle.rpc.specs.Texts.{IsSpelled, texts_of};
+ghost use Rattle.replies.specs.declared.reply.Log.{Log as Event};
+ghost use Rattle.replies.specs.declared.reply.Loss.{Loss as Cause};
+ghost use Rattle.replies.specs.declared.reply.Refusal.{Refusal as Refused};
 
-use frames::{
-    Decoder, DeviceFault, Frame, FrameFault, Input, Output, ReadInput, WriteOutput, write_frame,
-};
 use rpc::{
-    Call, Change, Id, Log, Loss, Malformed, Message, Note, Refusal, Reply, RpcFault, read, to_bytes,
+    Call, Change, Diagnostic, Id, Log, Loss, Malformed, Message, Note, Position, Range, Refusal,
+    Reply, Row, RpcFault, Stats, Unit, read, to_bytes,
 };
 use std::alloc::{AllocError, Global};
-use std::io::{Read, Write};
-
-/// `Frame`.
-pub fn frame(frame: Frame) -> Vec<u8> {
-    let Frame { content } = frame;
-    content
-}
-
-/// `FrameFault`: the number of the fault.
-pub fn frame_fault(fault: FrameFault) -> u8 {
-    match fault {
-        FrameFault::BadField => 1,
-        FrameFault::NoLength => 2,
-        FrameFault::SecondLength => 3,
-        FrameFault::BadLength => 4,
-        FrameFault::BadCharset => 5,
-        FrameFault::Truncated => 6,
-        FrameFault::Memory => 7,
-        FrameFault::LongHeader => 8,
-    }
-}
-
-/// `Decoder::new`.
-pub fn decoder(alloc: Global) -> Decoder {
-    Decoder::new(alloc)
-}
-
-/// `Decoder::feed`.
-pub fn feed(decoder: &mut Decoder, alloc: Global, piece: &[u8]) -> Result<Vec<Frame>, FrameFault> {
-    decoder.feed(alloc, piece)
-}
-
-/// `Decoder::fault`.
-pub fn fault(decoder: &Decoder) -> Option<FrameFault> {
-    decoder.fault()
-}
-
-/// `Decoder::finish`.
-pub fn finish(decoder: &Decoder) -> Result<(), FrameFault> {
-    decoder.finish()
-}
-
-/// `Input::read`.
-pub fn read_from<R: Input>(input: &mut R, buffer: &mut [u8]) -> Result<usize, DeviceFault>
-    requires { R.failures input.old ≡ 0 }
-{
-    input.read(buffer)
-}
-
-/// `Output::write`.
-pub fn write_to<W: Output>(output: &mut W, bytes: &[u8]) -> Result<usize, DeviceFault>
-    requires { W.failures output.old ≡ 0 }
-{
-    output.write(bytes)
-}
-
-/// `Output::flush`.
-pub fn flush<W: Output>(output: &mut W) -> Result<(), DeviceFault>
-    requires { W.failures output.old ≡ 0 }
-{
-    output.flush()
-}
-
-/// `ReadInput`, the adapter over `Read`.
-pub fn input<R: Read>(inner: R) -> ReadInput<R> {
-    ReadInput::new(inner)
-}
-
-/// `WriteOutput`, the adapter over `Write`.
-pub fn output<W: Write>(inner: W) -> WriteOutput<W> {
-    WriteOutput::new(inner)
-}
-
-/// `write_frame`.
-pub fn write_one<W: Output>(output: &mut W, content: &[u8]) -> Result<(), DeviceFault>
-    requires { W.failures output.old ≡ 0 }
-{
-    write_frame(output, content)
-}
 
 /// `read`.
-pub fn read_content(alloc: Global, content: &[u8]) -> Result<Message, RpcFault> {
+pub fn read_content(alloc: Global, content: &[u8]) -> Result<Message, RpcFault>
+    ensures { IfSome (received_of result) (λ received. Receives content.now received) }
+{
     read(alloc, content)
 }
 
 /// `to_bytes`.
-pub fn bytes_of(alloc: Global, reply: &Reply) -> Result<Vec<u8>, AllocError> {
+pub fn bytes_of(alloc: Global, reply: &Reply) -> Result<Vec<u8>, AllocError>
+    ensures { IfOk result (λ bytes.
+        bytes.items ≡ compact_text (reply_data (reply_view reply.now))) }
+{
     to_bytes(alloc, reply)
 }
 
@@ -109,89 +41,110 @@ pub fn message(message: &Message) -> (Option<&Id>, Option<&Call>, Option<&Note>)
 }
 
 /// `Id`.
-pub fn id(id: &Id) -> Option<i32> {
+pub fn id(id: Id) -> Result<i32, String> {
     match id {
-        Id::Text(_) => None,
-        Id::Number(number) => Some(*number),
+        Id::Text(text) => Err(text),
+        Id::Number(number) => Ok(number),
     }
 }
 
-/// `RpcFault`: its id, if it has one.
-pub fn rpc_fault(fault: &RpcFault) -> Option<&Id> {
+/// `RpcFault`: its id, if it has one, and whether it is of `initialize`.
+pub fn rpc_fault(fault: RpcFault) -> (Option<Id>, bool) {
     match fault {
-        RpcFault::Invalid { id } => id.as_ref(),
-        RpcFault::Unknown { id } => Some(id),
-        RpcFault::Params { id, initialize: _ } => Some(id),
-        RpcFault::Parse | RpcFault::Memory => None,
+        RpcFault::Invalid { id } => (id, false),
+        RpcFault::Unknown { id } => (Some(id), false),
+        RpcFault::Params { id, initialize } => (Some(id), initialize),
+        RpcFault::Parse | RpcFault::Memory => (None, false),
     }
 }
 
-/// `Call`: the URI that it names, if it names one.
-pub fn call(call: &Call) -> Option<&str> {
+/// `Call`: the unit or the URI that it names, and the positions.
+pub fn call(call: Call) -> (Option<Unit>, Option<String>, Option<Vec<Position>>) {
     match call {
-        Call::Initialize { unit: _ } | Call::Shutdown => None,
+        Call::Initialize { unit } => (Some(unit), None, None),
+        Call::Shutdown => (None, None, None),
+        Call::SelectionRange { uri, positions } => (None, Some(uri), Some(positions)),
         Call::FoldingRange { uri }
-        | Call::SelectionRange { uri, positions: _ }
         | Call::Text { uri }
         | Call::Tokens { uri }
         | Call::Tree { uri }
-        | Call::Stats { uri } => Some(uri.as_str()),
+        | Call::Stats { uri } => (None, Some(uri), None),
     }
 }
 
-/// `Note`: the URI that it names, if it names one.
-pub fn note(note: &Note) -> Option<&str> {
+/// What a notification carries.
+#[derive(Drop)]
+pub enum Noted {
+    Nothing,
+    Opened(String, i32, String),
+    Changed(String, i32, Vec<Change>),
+    Closed(String),
+    Unfit(Malformed),
+}
+
+/// `Note`.
+pub fn note(note: Note) -> Noted {
     match note {
-        Note::Initialized | Note::Exit | Note::Malformed(_) => None,
-        Note::DidOpen {
-            uri,
-            version: _,
-            text: _,
-        } => Some(uri.as_str()),
+        Note::Initialized | Note::Exit => Noted::Nothing,
+        Note::Malformed(malformed) => Noted::Unfit(malformed),
+        Note::DidOpen { uri, version, text } => Noted::Opened(uri, version, text),
         Note::DidChange {
             uri,
-            version: _,
-            changes: _,
-        } => Some(uri.as_str()),
-        Note::DidClose { uri } => Some(uri.as_str()),
+            version,
+            changes,
+        } => Noted::Changed(uri, version, changes),
+        Note::DidClose { uri } => Noted::Closed(uri),
     }
 }
 
 /// `Malformed`: the URI, where it is a text.
-pub fn malformed(malformed: &Malformed) -> Option<&String> {
+pub fn malformed(malformed: Malformed) -> Option<String> {
     match malformed {
-        Malformed::DidChange { uri } => uri.as_ref(),
+        Malformed::DidChange { uri } => uri,
         Malformed::DidOpen | Malformed::DidClose => None,
     }
 }
 
 /// `Change`.
-pub fn change(change: &Change) -> (bool, &str) {
-    (change.range.is_some(), change.text.as_str())
+pub fn change(change: Change) -> (Option<Range>, String) {
+    let Change { range, text } = change;
+    (range, text)
 }
 
-/// `Reply`: its id, if it has one.
-pub fn reply(reply: &Reply) -> Option<&Id> {
+/// What a reply carries besides its id.
+#[derive(Drop)]
+pub enum Carried {
+    Nothing,
+    Unit(Unit),
+    Text(i32, String),
+    Rows(Vec<Row>),
+    Tree(String),
+    Stats(Stats),
+    Pairs(Vec<(u32, u32)>),
+    Selections(Vec<Vec<Range>>),
+    Refusal(Refusal),
+    Diagnostics(String, Option<i32>, Option<Diagnostic>),
+    Log(Log),
+}
+
+/// `Reply`: its id, if it has one, and what it carries.
+pub fn reply(reply: Reply) -> (Option<Id>, Carried) {
     match reply {
-        Reply::Capabilities { id, unit: _ }
-        | Reply::Null { id }
-        | Reply::Text {
-            id,
-            version: _,
-            text: _,
-        }
-        | Reply::Tokens { id, rows: _ }
-        | Reply::Tree { id, text: _ }
-        | Reply::Stats { id, stats: _ }
-        | Reply::Folds { id, pairs: _ }
-        | Reply::Selections { id, selections: _ } => Some(id),
-        Reply::Error { id, refusal: _ } => id.as_ref(),
+        Reply::Capabilities { id, unit } => (Some(id), Carried::Unit(unit)),
+        Reply::Null { id } => (Some(id), Carried::Nothing),
+        Reply::Text { id, version, text } => (Some(id), Carried::Text(version, text)),
+        Reply::Tokens { id, rows } => (Some(id), Carried::Rows(rows)),
+        Reply::Tree { id, text } => (Some(id), Carried::Tree(text)),
+        Reply::Stats { id, stats } => (Some(id), Carried::Stats(stats)),
+        Reply::Folds { id, pairs } => (Some(id), Carried::Pairs(pairs)),
+        Reply::Selections { id, selections } => (Some(id), Carried::Selections(selections)),
+        Reply::Error { id, refusal } => (id, Carried::Refusal(refusal)),
         Reply::Diagnostics {
-            uri: _,
-            version: _,
-            diagnostic: _,
-        } => None,
-        Reply::Log { log: _ } => None,
+            uri,
+            version,
+            diagnostic,
+        } => (None, Carried::Diagnostics(uri, version, diagnostic)),
+        Reply::Log { log } => (None, Carried::Log(log)),
     }
 }
 
@@ -228,4 +181,37 @@ pub fn loss(loss: Loss) -> u8 {
         Loss::MalformedChange => 2,
         Loss::Memory => 3,
     }
+}
+
+/// `received_unique`.
+pub fn received_unique()
+    ensures { (content : List ℕ) (a b : Received)
+        → Receives content a → Receives content b → a ≡ b }
+{
+    rpc::received_unique();
+}
+
+/// `received_exists`.
+pub fn received_exists()
+    ensures { (content : List ℕ) → (received : Received) × Receives content received }
+{
+    rpc::received_exists();
+}
+
+/// `each_text_is_unicode`.
+pub fn each_text_is_unicode()
+    ensures { (content : List ℕ) (received : Received) → Receives content received →
+        All IsSpelled (texts_of received) }
+{
+    rpc::each_text_is_unicode();
+}
+
+/// `equal_refusals_are_the_same`.
+pub fn equal_refusals_are_the_same()
+    ensures losses { (a b : Cause) → IsTrue (⟦<replies::Loss as PartialEq>⟧.eq a b) ↔ (a ≡ b) }
+    ensures logs { (a b : Event) → IsTrue (⟦<replies::Log as PartialEq>⟧.eq a b) ↔ (a ≡ b) }
+    ensures refusals { (a b : Refused) →
+        IsTrue (⟦<replies::Refusal as PartialEq>⟧.eq a b) ↔ (a ≡ b) }
+{
+    replies::laws::equal_refusals_are_the_same();
 }

@@ -1,16 +1,39 @@
-//! `server`, and the functions of the program.
+//! The server and the program: `sessions`, `server` and `commands`.
 
-ghost use Rattle.std.specs.Prelude.{◌≡◌};
+ghost use Rattle.std.specs.Prelude.{◌≡◌, false, true, IfOk, OnOk, OnErr, IsErr, ◌↔◌, ℕ, List, All, IsErrOf, map, string_bytes, IfErr, IsTrue};
+ghost use Rattle.sessions.specs.Steps.{first_state, StepOn};
+ghost use Rattle.server.specs.States.{has_failed, state_view};
+ghost use Rattle.rpc.specs.Messages.{received_of, Received};
+ghost use Rattle.sessions.specs.Sent.{sent};
+ghost use Rattle.rpc.specs.Reading.{Receives};
+ghost use Rattle.rpc.specs.Texts.{IsSpelled, texts_of};
+ghost use Rattle.sessions.specs.Alone.{EachDocumentIsAlone, EachRunHasAHistory, HistoriesDecide};
+ghost use Rattle.sessions.specs.Fresh.{EveryAnswerIsFresh, EachTextIsItsEdits};
+ghost use Rattle.sessions.specs.Sessions.{Session};
+ghost use Rattle.commands.specs.CommandLines.{IsRead};
+ghost use Rattle.std.specs.Str.{IsUtf8};
+ghost use Rattle.docs.specs.Languages.{IsLanguageOf};
+ghost use Rattle.commands.specs.Refusals.{IsRefused};
+ghost use Rattle.commands.specs.Reporting.{IsChecked};
+ghost use Rattle.commands.specs.Parsing.{IsParsed};
+ghost use Rattle.readings.specs.Answers.{AlwaysAnswers, AnswersOnce};
+ghost use Rattle.readings.specs.Grammars.{FileGrammar};
+ghost use Rattle.readings.specs.Edits.{CountsOnce};
+ghost use Rattle.sessions.specs.declared.fault.RunFault.{RunFault as Ending};
+ghost use Rattle.sessions.specs.declared.phase.Phase.{Phase as Stage};
 
 use commands::{Printed, Words};
-use docs::Language;
+use docs::{Doc, Language};
 use frames::{FrameFault, Input, Output};
 use rpc::{Message, Reply, RpcFault};
 use server::{Out, RunFault, Server};
 use std::alloc::{AllocError, Global};
 
 /// `Server::new`.
-pub fn new(alloc: Global, language: Language) -> Server {
+pub fn new(alloc: Global, language: Language) -> Server
+    ensures state { state_view result ≡ first_state language.file }
+    ensures works { has_failed result ≡ false }
+{
     Server::new(alloc, language)
 }
 
@@ -19,7 +42,14 @@ pub fn handle(
     server: &mut Server,
     alloc: Global,
     message: Result<Message, RpcFault>,
-) -> Result<Out, AllocError> {
+) -> Result<Out, AllocError>
+    ensures step { IfOk result (λ out.
+        StepOn (received_of message) (state_view server.old) (sent out) out.stop
+        (state_view server.new)) }
+    ensures failed { has_failed server.old ≡ true → IsErr result }
+    ensures err { OnErr result (has_failed server.new ≡ true) }
+    ensures ok { OnOk result (has_failed server.new ≡ false) }
+{
     server.handle(alloc, message)
 }
 
@@ -38,6 +68,18 @@ pub fn run<R: Input, W: Output>(
 ) -> Result<u8, RunFault>
     requires input { R.failures input.old ≡ 0 }
     requires output { W.failures output.old ≡ 0 }
+    ensures session { let old = W.contents output.old in
+        let new = W.contents output.new in
+        Session language.file (R.remaining input.old) (R.remaining input.new) old new result }
+    ensures fresh { EveryAnswerIsFresh language.file }
+    ensures edits { EachTextIsItsEdits }
+    ensures unicode { (content : List ℕ) (received : Received) → Receives content received →
+        All IsSpelled (texts_of received) }
+    ensures alone { EachDocumentIsAlone language.file }
+    ensures histories { EachRunHasAHistory }
+    ensures by_history { HistoriesDecide language.file }
+    ensures read { IsErrOf result RunFault.Read ↔ R.failures input.new ≡ 1 }
+    ensures write { IsErrOf result RunFault.Write ↔ W.failures output.new ≡ 1 }
 {
     server::run(alloc, language, input, output)
 }
@@ -51,7 +93,9 @@ pub fn run_fault(fault: RunFault) -> Option<FrameFault> {
 }
 
 /// `words`.
-pub fn words(alloc: Global, given: &[String]) -> Result<Option<Words>, AllocError> {
+pub fn words(alloc: Global, given: &[String]) -> Result<Option<Words>, AllocError>
+    ensures { IfOk result (IsRead (map string_bytes given.now)) }
+{
     commands::words(alloc, given)
 }
 
@@ -64,17 +108,25 @@ pub fn asked(asked: Words) -> (String, Option<String>) {
 }
 
 /// `load`.
-pub fn load(alloc: Global, bytes: &[u8]) -> Result<Result<Language, Printed>, AllocError> {
+pub fn load(alloc: Global, bytes: &[u8]) -> Result<Result<Language, Printed>, AllocError>
+    ensures utf8 { IfOk result (λ loaded. IfOk loaded (λ _. IsUtf8 bytes.now)) }
+    ensures language { IfOk result (λ loaded. IfOk loaded (λ l. IsLanguageOf bytes.now l.file)) }
+    ensures refused { IfOk result (λ loaded. IfErr loaded (IsRefused bytes.now)) }
+{
     commands::load(alloc, bytes)
 }
 
 /// `check`.
-pub fn check(alloc: Global, language: &Language) -> Result<Printed, AllocError> {
+pub fn check(alloc: Global, language: &Language) -> Result<Printed, AllocError>
+    ensures { IfOk result (IsChecked language.now.file) }
+{
     commands::check(alloc, language)
 }
 
 /// `parse`.
-pub fn parse(alloc: Global, language: &Language, bytes: &[u8]) -> Result<Printed, AllocError> {
+pub fn parse(alloc: Global, language: &Language, bytes: &[u8]) -> Result<Printed, AllocError>
+    ensures { IfOk result (IsParsed language.now.file bytes.now) }
+{
     commands::parse(alloc, language, bytes)
 }
 
@@ -82,4 +134,49 @@ pub fn parse(alloc: Global, language: &Language, bytes: &[u8]) -> Result<Printed
 pub fn printed(printed: Printed) -> (Vec<u8>, Vec<u8>, u8) {
     let Printed { out, err, status } = printed;
     (out, err, status)
+}
+
+/// `server::Doc` and `server::Language`.
+pub fn handed_on(doc: server::Doc, language: server::Language) -> (Doc, Language) {
+    (doc, language)
+}
+
+/// `every_answer_is_fresh`.
+pub fn every_answer_is_fresh()
+    ensures { (file : FileGrammar) → AlwaysAnswers file → AnswersOnce file
+        → EveryAnswerIsFresh file }
+{
+    sessions::laws::every_answer_is_fresh();
+}
+
+/// `each_text_is_its_edits`.
+pub fn each_text_is_its_edits()
+    ensures { EachTextIsItsEdits }
+{
+    sessions::laws::each_text_is_its_edits();
+}
+
+/// `each_document_is_alone`.
+pub fn each_document_is_alone()
+    ensures alone { (file : FileGrammar) → AnswersOnce file → CountsOnce file
+        → EachDocumentIsAlone file }
+    ensures histories { EachRunHasAHistory }
+    ensures by_history { (file : FileGrammar) → AnswersOnce file → CountsOnce file
+        → HistoriesDecide file }
+{
+    sessions::laws::each_document_is_alone();
+}
+
+/// `equal_run_faults_are_the_same`.
+pub fn equal_run_faults_are_the_same()
+    ensures { (a b : Ending) → IsTrue (⟦<sessions::RunFault as PartialEq>⟧.eq a b) ↔ (a ≡ b) }
+{
+    sessions::laws::equal_run_faults_are_the_same();
+}
+
+/// `equal_phases_are_the_same`.
+pub fn equal_phases_are_the_same()
+    ensures { (a b : Stage) → IsTrue (⟦<sessions::Phase as PartialEq>⟧.eq a b) ↔ (a ≡ b) }
+{
+    sessions::laws::equal_phases_are_the_same();
 }
