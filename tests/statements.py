@@ -8,6 +8,8 @@ number.
 import os
 import re
 
+import clauses
+import counted
 import definitions as definitions_page
 import libraries
 from rows import UNDER_RUN, Guards
@@ -18,10 +20,6 @@ WIDTH_OF_CONTRACTS = 100
 WIDTH_OF_DEFINITIONS = 140
 WIDTH_OF_DOCSTRINGS = 99
 WIDTH_OF_PROOFS = 199
-
-# What a proof that isn't written looks like, and how THEOREM.md writes the number of the lines that look so.
-HOLE = re.compile(r"\?|\{!")
-NUMBERS = ("no", "one", "two", "three", "four", "five", "six", "seven", "eight", "nine", "ten")
 
 # The laws under `run`, which no row gives: a row takes each as a premise, so that one that says less no longer fits. They are proved in
 # sessions/src/laws.rt.
@@ -164,12 +162,6 @@ def missing_laws(top):
     return missing
 
 
-def edits(top, folder):
-    """How many edits the crates have in folders of this name."""
-    folders = (os.path.join(top, "crates", crate, folder) for crate in os.listdir(os.path.join(top, "crates")))
-    return sum(name.endswith(".edit") for folder in folders if os.path.isdir(folder) for name in os.listdir(folder))
-
-
 def misplaced_edits(top):
     """The edits of definitions in `must-fail/`, where a proof whose form no longer fits refuses them too."""
     found = []
@@ -179,22 +171,6 @@ def misplaced_edits(top):
         texts = {name: "\n".join(lines_of(os.path.join(folder, name))) for name in names if name.endswith(".edit")}
         found += [f"{crate}/{name}" for name, text in texts.items() if re.search(r"^file: specs/", text, re.M)]
     return found
-
-
-def sizes(top):
-    """The lines of the program's crates in `src`, `specs` and `proofs`, and all those of the other crates, which no program stands on."""
-    text = "\n".join(lines_of(os.path.join(top, "crates.txt")))
-    apart = set(re.findall(r"^(\w+):", text[text.index("# What tests share") :], re.M))
-    lines = {"src": 0, "specs": 0, "proofs": 0, "apart": 0}
-    for folder in ("src", "specs", "proofs"):
-        for path in files_of(top, folder, ".rt") + files_of(top, folder, ".antt"):
-            crate = os.path.relpath(path, os.path.join(top, "crates")).split(os.sep)[0]
-            lines["apart" if crate in apart else folder] += len(lines_of(path)) - 1
-    return [f"{count:,}" for count in lines.values()]
-
-
-def page(top, name):
-    return "\n".join(lines_of(os.path.join(top, name)))
 
 
 def check(cases, top):
@@ -210,21 +186,8 @@ def check(cases, top):
     cases.check("no edit of a definition under `run` is in must-fail/", [], misplaced_edits(top))
     cases.check("each definition that another crate names has a comment", [], untold(definitions, used_elsewhere(top, definitions)))
     cases.check("the pages of definitions are what tests/definitions.py writes", [], definitions_page.differences(top))
-    theorem = page(top, "docs/THEOREM.md")
-    files = len({key[:2] for key in rest})
-    said = re.search(r"rests on (\d+) definitions in (\d+) files of `specs/`, ([\d,]+) lines", theorem)
-    awaited = (str(len(rest)), str(files), f"{definitions.lines(rest):,}")
-    cases.check("docs/THEOREM.md says what `run` rests on", awaited, said and said.groups())
-    meaning = definitions_page.of_file(definitions, dict.fromkeys(rest))
-    said = re.search(r"rests on (\d+) definitions more, (\d+) lines", theorem)
-    awaited = (str(len(meaning)), str(definitions.lines(meaning)))
-    cases.check("docs/THEOREM.md says what a grammar's file means", awaited, said and said.groups())
-    said = re.search(r"of the (\d+) files `must-fail/", theorem)
-    cases.check("docs/THEOREM.md gives the number of wrong edits", str(edits(top, "must-fail")), said and said[1])
-    said = re.search(r"of the (\d+) files `wrong-definitions/", theorem)
-    cases.check("docs/THEOREM.md gives the number of wrong definitions", str(edits(top, "wrong-definitions")), said and said[1])
-    reported = re.findall(r"^\|.*\| ([\d,]+) \|$", theorem, re.M)
-    cases.check("docs/THEOREM.md gives the lines of the crates", sizes(top), reported)
+    cases.check("docs/CLAUSES.md is what tests/clauses.py writes", [], clauses.differences(top))
+    counted.check(cases, top)
     cases.check("no line of a contract is too wide", [], wide_clauses(top))
     cases.check("no line of a definition is too wide", [], wide_definitions(top))
     cases.check("no line of a docstring is too wide", [], wide_docstrings(top))
@@ -232,6 +195,3 @@ def check(cases, top):
     cases.check("each name that a contract's file brings in is named there", [], idle_imports(top))
     cases.check("each name that a `proofs/Common` passes on is taken from there", [], idle_in_common(top))
     libraries.check(cases, top)
-    found = sum(bool(HOLE.search(line)) for path in files_of(top, "crates", ".antt") for line in lines_of(path))
-    cases.check("docs/THEOREM.md says how many lines its search for holes prints", True, f"prints {NUMBERS[found]} lines of comments" in theorem)
-    cases.check("README.md has at most 1,800 words", True, len(page(top, "README.md").split()) <= 1_800)
