@@ -6,7 +6,7 @@ pub use Rattle.std.specs.List.{AllByRecursion}
 pub use Rattle.std.specs.Str.{IsUtf8, chars}
 pub use Rattle.std.proofs.Math.Nat.{le-max_left, le-max_right, max-le, min-eq_left, min-eq_right, min-le_left, min-le_right}
 pub use Rattle.std.proofs.lemmas.Bool.{cases_lt, eq-eqb, eqb-true, true_from_ne_false}
-pub use Rattle.std.proofs.lemmas.List.{append-nil, append_assoc, drop-drop, drop-take, length-append, length-drop, length-map, length-take, map-append, take-append-drop, take-take, take_all, take_at, take_more}
+pub use Rattle.std.proofs.lemmas.List.{append_assoc, drop-drop, drop-take, length-append, length-drop, length-map, length-take, map-append, take-append-drop, take-take, take_all, take_at, take_more}
 pub use Rattle.std.proofs.lemmas.List.Elements.{All-append, All-cons, All-drop, All-nil, All-take, All-weaker, recursion_from_All}
 pub use Rattle.std.proofs.lemmas.List.Folds.{drop_split}
 pub use Rattle.std.proofs.lemmas.Result.{IfOk-weaker, err_from_is_err_and}

@@ -1,5 +1,5 @@
 -- What the contents of the worked sessions are read as.
-use Rattle.std.specs.Prelude.{◌≡◌, pos, [], codes, refl}
+use Rattle.std.specs.Prelude.{◌≡◌, pos, [], refl}
 use Rattle.std.specs.Char.{encode_utf8}
 use Rattle.std.specs.Str.{chars, is_utf8}
 use Rattle.serde_json.proofs.OnLiterals.{serde_json_on_literals}

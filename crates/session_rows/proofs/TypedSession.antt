@@ -5,7 +5,7 @@ use Rattle.std.specs.Char.{encode_utf8}
 use Rattle.std.specs.FinMap.{empty, get, insert, len, contains_key, get-insert, len-empty}
 use Rattle.std.proofs.lemmas.Cmp.{nat_list_cmp_total}
 use Rattle.std.specs.Fmt.{digits}
-use Rattle.std.specs.Str.{chars, is_utf8}
+use Rattle.std.specs.Str.{chars}
 use Rattle.definitions.specs.Answers.{message, diagnostic}
 use Rattle.definitions.specs.Sentences.{IsExpected, IsViable, IsVerdict, Verdict, HasTree, FaultAt, FaultAtEnd}
 use Rattle.definitions.specs.Text.{changed, offset, line_start, line_from, line_of, position, break_ends, units, greatest}
@@ -23,7 +23,6 @@ use Rattle.grammar_file.specs.Contents.{rules}
 use Rattle.grammar_file.specs.Kept.{ArePatterns}
 use Rattle.grammar_line.specs.Statements.{statements}
 use Rattle.json.specs.Print.{escape_byte}
-use Rattle.serde_json.proofs.OnLiterals.{serde_json_on_literals}
 use Rattle.frames.specs.Frames.{Open, Splits}
 use Rattle.sessions.specs.declared.fault.RunFault.{RunFault}
 use Rattle.sessions.specs.declared.fault.RunFault.TheVariants.{Frame, Read, Write, Memory}
@@ -31,10 +30,9 @@ use Rattle.readings.specs.Answers.{Diagnostic}
 use Rattle.readings.specs.Diagnostics.{IsDiagnosis, looks}
 use Rattle.readings.specs.Grammars.{FileGrammar}
 use Rattle.readings.specs.Texts.{OpenDocument}
-use Rattle.rpc.specs.Ids.{Ident, numbered}
 use Rattle.rpc.specs.Log.TheVariants as log
 use Rattle.rpc.specs.Loss.TheVariants as loss
-use Rattle.rpc.specs.Messages.{accepted, request, notification, initialize, shutdown, about, its_text, exit, open_text, change_text, TextChange}
+use Rattle.rpc.specs.Messages.{its_text}
 use Rattle.rpc.specs.Reading.{received_in}
 use Rattle.rpc.specs.Refusal.TheVariants as refusal
 use Rattle.rpc.specs.Replies.{Answer, capabilities_reply, null_reply, text_reply, error_reply, published_diagnostics, log_message}

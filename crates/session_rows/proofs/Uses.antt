@@ -9,18 +9,16 @@ use Rattle.std.proofs.lemmas.List.Elements.{All-head, All-tail}
 use Rattle.rpc.specs.Texts.{IsSpelled}
 use Rattle.definitions.specs.Text.{changed, offset, line_start, line_from, break_ends, units, greatest}
 use Rattle.readings.specs.Grammars.{FileGrammar}
-use Rattle.readings.specs.Texts.{LastEdit, OpenDocument}
-use Rattle.rpc.specs.Loss.TheVariants as loss
-use Rattle.rpc.specs.Messages.{Received, accepted, request, notification, initialize, about, its_text, open_text, change_text}
+use Rattle.readings.specs.Texts.{OpenDocument}
+use Rattle.rpc.specs.Messages.{Received, accepted, request, notification, about, its_text, open_text, change_text}
 use Rattle.rpc.specs.Reading.{received_in}
 use Rattle.rpc.specs.Replies.{Answer, capabilities_reply}
 use Rattle.rpc.specs.Unit.{Unit as Encoding}
 use Rattle.rpc.specs.Unit.TheVariants.{Utf16}
-use Rattle.sessions.specs.Alone.{Event, History, Notes, SendTheSame, event_in, loses, named, loses_memory}
-use Rattle.sessions.specs.Answers.{IsAnswer}
-use Rattle.sessions.specs.Documents.{DocumentState, is_open, is_lost, Held, Becomes, edited, has_room}
+use Rattle.sessions.specs.Alone.{Event, History, SendTheSame, event_in, loses, named, loses_memory}
+use Rattle.sessions.specs.Documents.{DocumentState, is_open, is_lost, Held, edited, has_room}
 use Rattle.sessions.specs.Runs.{Run}
-use Rattle.sessions.specs.Steps.{State, Step, first_state, new_document, Opens, Holds, Changes, OnRequest, OnNotification, RepliesSome}
+use Rattle.sessions.specs.Steps.{State, Step, first_state, new_document, Opens, Holds, Changes, OnRequest, OnNotification}
 use Rattle.sessions.specs.declared.phase.Phase.{Phase}
 use Rattle.sessions.specs.declared.phase.Phase.TheVariants.{New, Ready, Down}
 use Rattle.session_rows.specs.Contents.{uri, other_uri, of, initializes, opens, opens_other, types, asks, both_changes}

@@ -1,5 +1,5 @@
 -- What follows from the clauses of `run` besides `session`, for the contents of worked sessions.
-use Rattle.std.specs.Prelude.{◌≡◌, ◌⊎◌, ℕ, ℤ, pos, List, [], ◌∷◌, ◌++◌, All, Option, Some, None, codes}
+use Rattle.std.specs.Prelude.{◌≡◌, ◌⊎◌, ℕ, ℤ, pos, List, [], ◌∷◌, ◌++◌, All, Option, Some, codes}
 use Rattle.std.specs.FinMap.{get}
 use Rattle.readings.specs.Grammars.{FileGrammar}
 use Rattle.rpc.specs.Loss.TheVariants.{Memory}
@@ -13,7 +13,7 @@ use Rattle.sessions.specs.Documents.{is_lost}
 use Rattle.sessions.specs.Fresh.{AnswerAlike, EachTextIsItsEdits, EveryAnswerIsFresh, IsFresh, IsLastPublished, Publishes}
 use Rattle.sessions.specs.Runs.{Run}
 use Rattle.sessions.specs.Steps.{State, Step, first_state}
-use Rattle.session_rows.specs.Contents.{uri, other_uri, of, initializes, opens, opens_other, types, asks}
+use Rattle.session_rows.specs.Contents.{uri, of, initializes, opens, opens_other, types, asks}
 
 -- the clauses of `run` that speak of all sessions of a grammar's file
 pub record Promises (file : FileGrammar) : Type 0 where
