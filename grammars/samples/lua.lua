@@ -45,4 +45,6 @@ end
 local low, high <const> = false, [=[ a ]] b ]=]
 low, (Stack).inner().rows[1] = high, 2;
 (print)(low)(high)
+#! what a script's first line may be
+local longest --[===[ a comment ]==] of level 3 ]===] = [===[ a ]] b ]=] c ]==] d ]===]
 return Stack, bits(1, 2)

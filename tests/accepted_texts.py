@@ -1,0 +1,55 @@
+"""Texts in forms that files of others have, each of which the grammar of its language has to accept.
+
+They were written for this table. tests/corpora tries the files themselves.
+"""
+
+# A grammar file begins with its first line and nothing before it, and g0.lr is the grammar of the examples of the specification.
+NO_BYTE_ORDER_MARK = {"lr", "g0"}
+
+TEXTS = {
+    "c": [
+        # names that are types
+        "size_t n;",
+        "static const uint8_t *const table[] = { 1, 2 };",
+        "typedef int (*compare)(const void *, const void *);",
+        "wchar_t (*first)(void) = 0, *second;",
+        "void f(void) { size_t n = 0; item *one = first, **two; const item *three; }",
+        "void f(void) { for (item *one = list; one; one = one->next) ; }",
+        "int main(int argc, char **argv) { FILE *file = fopen(argv[1], \"r\"); return 0; }",
+        "void f(uint32_t, size_t n, char const *s, item *(*make)(void), item rest[]);",
+        # casts
+        "int a = (size_t) n + (item *) p->next;",
+        "void *p = (unsigned char *) (void *) (item) q;",
+        "int a = (uint64_t) (uintptr_t) p;",
+        "item one = (item) { .next = 0 };",
+        "void f(void) { (void) g; (void) h(1); }",
+        # macros
+        "EXPORT(int) f(void) { return 0; }",
+        "MODULE_LICENSE(\"any\");\nMODULE(one)\nint a;",
+        "static LIST_HEAD(jobs, job) waiting = EMPTY(waiting);",
+        "struct job { LIST_ENTRY(job) link; BITS flags; };",
+        "void fail(const char *, ...) PRINTF(1, 2) NORETURN;",
+        "void f(void) { EACH(one, &list) { g(one); } }",
+        "char *a = \"%\" PRIu64 \" of \" TOTAL \"\\n\";",
+        "int a = offsetof(struct job, next) + va_arg(list, char *);",
+        # what is skipped
+        "#define LOOP(n) \\\n    for (;;) { \\\n    }\nint a;",
+        "#define A \"/*\" /* a comment\n   of two lines */\nint a;",
+        "#error it isn't \"closed\nint a;",
+        # after the preprocessor, by gcc
+        "extern int f (int) __asm__ (\"g\") __attribute__ ((__nothrow__ , __leaf__));",
+        "static __inline int f(const char *__restrict a) { return __extension__ ({ int b = *a; b; }); }",
+        "typedef __builtin_va_list list; _Noreturn void f(void);",
+        "void f(void) { __asm__ __volatile__ (\"nop\" : : \"r\" (a) : \"memory\"); }",
+    ],
+    "css": [
+        ".card { color: red; &:hover { color: blue } > p { margin: 0 } .title & { order: 1 } }",
+        ".card { p { margin: 0 } @media print { display: none } }",
+        "ul { li, ol > li { a { color: red } } }",
+    ],
+    "lua": [
+        "#!/usr/bin/env lua\nprint(1)",
+        "--[===[ ]==] ]===] x = [===[ ]] ]=] ]==] ]===]",
+        "x = 0xe+1 y = 1e+1 z = .5 .. 3.",
+    ],
+}
