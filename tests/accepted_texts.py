@@ -52,4 +52,31 @@ TEXTS = {
         "--[===[ ]==] ]===] x = [===[ ]] ]=] ]==] ]===]",
         "x = 0xe+1 y = 1e+1 z = .5 .. 3.",
     ],
+    "sql": [
+        # standard SQL
+        "ALTER TABLE a ADD CONSTRAINT b FOREIGN KEY (c) REFERENCES d (e) ON DELETE CASCADE",
+        "ALTER TABLE a ADD PRIMARY KEY (b, c)",
+        "ALTER TABLE a DROP CONSTRAINT b CASCADE",
+        "ALTER TABLE a ALTER COLUMN b SET DEFAULT 0",
+        "DROP TABLE a, b CASCADE",
+        "UPDATE a SET b = DEFAULT, c = c + 1 WHERE d = 2",
+        "SELECT a FROM b WHERE c = ANY (SELECT d FROM e)",
+        "SELECT count(*) FILTER (WHERE a > 1) FROM b",
+        "SELECT substring(a FROM 2 FOR 3), trim(BOTH 'x' FROM a), position('x' IN a), extract(year FROM a) FROM b",
+        "SELECT x.a FROM (VALUES (1, 2)) AS x (a, b)",
+        "CREATE VIEW a AS SELECT b FROM c WHERE d > 1 WITH CHECK OPTION",
+        "CREATE SCHEMA a; CREATE SEQUENCE b START WITH 1; CREATE DOMAIN c AS INT CHECK (VALUE > 0)",
+        "MERGE INTO a USING b ON a.id = b.id WHEN MATCHED THEN UPDATE SET c = 1 WHEN NOT MATCHED THEN INSERT (id) VALUES (1)",
+        "SAVEPOINT a; ROLLBACK TO SAVEPOINT a; START TRANSACTION; COMMIT WORK; TRUNCATE TABLE a; SET a TO b",
+        "COPY a (b, c) FROM '/tmp/a.csv' WITH (FORMAT csv)",
+        # PostgreSQL
+        "CREATE FUNCTION f(a int) RETURNS int AS $$ BEGIN RETURN a; END; $$ LANGUAGE plpgsql",
+        "INSERT INTO a (b) VALUES (1) ON CONFLICT (b) DO UPDATE SET c = 2 RETURNING id",
+        "SELECT a::text, b -> 'c' ->> 'd', e[1], ARRAY[1, 2], now() - INTERVAL '1 day' FROM f WHERE g ~* 'h'",
+        "\\echo the terminal's own\nCREATE EXTENSION a",
+        # MySQL
+        "CREATE TABLE `a` (`b` INT(10) UNSIGNED NOT NULL AUTO_INCREMENT COMMENT 'c', d ENUM('x', 'y'), KEY e (d(8))) ENGINE=InnoDB",
+        "ALTER TABLE `a` MODIFY COLUMN `b` BIGINT UNSIGNED NOT NULL, CHANGE `c` `d` VARCHAR(64) CHARACTER SET utf8 COLLATE utf8_bin",
+        "SET FOREIGN_KEY_CHECKS = 0; REPLACE INTO a (b) VALUES (1); INSERT IGNORE INTO a VALUES (1) ON DUPLICATE KEY UPDATE b = 2",
+    ],
 }
