@@ -47,10 +47,29 @@ TEXTS = {
         ".card { p { margin: 0 } @media print { display: none } }",
         "ul { li, ol > li { a { color: red } } }",
     ],
+    "control": [
+        "Package: a\nDepends: b,\n# a comment\n c (>= 1)\n\n\nPackage: d\n",
+        "# a comment before all\n\nFormat: 1.0\nFiles:\n 0 1 a\n",
+    ],
+    "go": [
+        "// a comment\n\npackage a // another\n\n/* and\none more */\nimport \"fmt\"\n\nfunc main() { fmt.Println(\"a\") }",
+        "package a\nvar b = []c{\n\t{1, 2}, // one\n\t{3, 4},\n}\n",
+        "package a\nfunc (b *c[d]) e(f, g int) (h error) {\n\tif i := b.j(f); i != nil {\n\t\treturn i\n\t}\n\treturn\n}\n",
+        "package a\nfunc b() {\n\tfor c := 0; c < 2; c++ {\n\t\tselect {\n\t\tcase d := <-e:\n\t\tdefault:\n\t\t}\n\t}\n}\n",
+        "package a\nfunc b[c any, d ~[]c](e d) {\n\tf(e).\n\t\tg().\n\t\th(func() { return })\n}\n",
+    ],
     "lua": [
         "#!/usr/bin/env lua\nprint(1)",
         "--[===[ ]==] ]===] x = [===[ ]] ]=] ]==] ]===]",
         "x = 0xe+1 y = 1e+1 z = .5 .. 3.",
+    ],
+    "nginx": [
+        "location ~ ^/(a|b)\\.php$ { fastcgi_param A $document_root$b; if ($c ~* \"d{2}\") { rewrite ^ /e?f=$1#g last; } }",
+    ],
+    "scheme": [
+        "(define-syntax swap! (syntax-rules () ((_ a b) (let ((t a)) (set! a b) (set! b t)))))",
+        "#!/usr/bin/guile -s\n!#\n(display #t) ; a comment\n#| and #| another |# one |#",
+        "(let loop ((n' 1)) `(,n' ,@(list #\\( #\\space #xFF -1/2 1e3)))",
     ],
     "sql": [
         # standard SQL
