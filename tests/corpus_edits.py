@@ -147,8 +147,7 @@ def edited_file(sessions, name, text, count, seed):
 
 def run(name, language, texts, count, seed):
     """Types so many edits, in a few of the texts. Returns how many answers differed."""
-    adapted = [(label, language.adapted(text)) for label, text in texts]
-    fitting = [row for row in adapted if SIZES[0] <= len(row[1]) <= SIZES[1]]
+    fitting = [row for row in texts if SIZES[0] <= len(row[1]) <= SIZES[1]]
     fitting = random.Random(seed).sample(fitting, min(FILES, len(fitting)))
     if not fitting:
         print(f"  no edits, since no text has {SIZES[0]} to {SIZES[1]} characters")

@@ -153,7 +153,7 @@ C_FAULT = re.compile(
     r"error: (expected|stray|missing terminating|unterminated|unknown type name|empty character|invalid suffix|type defaults"
     r"|return type defaults|ISO C does not allow extra).*"
 )
-GCC = ["gcc", "-std=c99", "-pedantic-errors", "-fsyntax-only", "-x", "cpp-output", "-"]
+GCC = ["gcc", "-std=gnu11", "-fsyntax-only", "-x", "cpp-output", "-"]
 
 
 def gcc(roots):
@@ -260,6 +260,55 @@ def sqlite(roots):
     return "sqlite " + sqlite3.sqlite_version, parse
 
 
+def gofmt(roots):
+    places = [os.path.join(root, path) for root in roots for path in ("usr/bin/gofmt", "usr/lib/go-*/bin/gofmt")]
+    found = sorted(path for place in places for path in glob.glob(place))
+    if not found:
+        raise Missing("gofmt isn't installed (Debian package golang-go)")
+
+    def parse(text):
+        status, _, err = ran([found[-1], "-e"], text)
+        return first_line(err) if status else None
+
+    return "gofmt", parse
+
+
+# Reads data up to the end of the text.
+READ_ALL = "(let loop () (if (not (eof-object? (read))) (loop)))"
+
+
+def guile(roots):
+    program(["guile"], "guile-3.0")
+
+    def parse(text):
+        status, _, err = ran(["guile", "--no-auto-compile", "-c", READ_ALL], text)
+        return first_line(err) or "refused" if status else None
+
+    return "guile's read", parse
+
+
+def python_debian(roots):
+    sys.path += [os.path.join(root, "usr/lib/python3/dist-packages") for root in roots]
+    try:
+        from debian import deb822
+    except ImportError:
+        raise Missing("python3-debian isn't installed") from None
+
+    def parse(text):
+        try:
+            for paragraph in deb822.Deb822.iter_paragraphs(io.StringIO(text), use_apt_pkg=False, strict={"whitespace-separates-paragraphs": True}):
+                list(paragraph.items())
+        except (ValueError, EOFError) as fault:
+            return str(fault)
+        return None
+
+    return "python3-debian", parse
+
+
+def no_other(roots):
+    raise Missing("no other parser takes such texts alone")
+
+
 # What is made of a file: the texts that are parsed, with a name for each
 
 
@@ -278,13 +327,33 @@ def statements(path, text):
     return [(f"{path} statement {number + 1}", statement) for number, statement in enumerate(found) if statement]
 
 
+# A string, a quoted name, a comment, a text between dollars, a line of the terminal's own, the end of a statement, and what is else
+SQL_PIECE = re.compile(
+    r"""'(?:[^'\\]|''|\\.)*'|"[^"]*"|`[^`]*`|(?P<comment>--[^\n]*|/\*.*?\*/)|(?P<dollars>\$\w*\$).*?(?P=dollars)|\\[^\n]*|;|[^'"`\-/$\\;]+|.""",
+    re.DOTALL,
+)
+
+
+def other_statements(path, text):
+    """The statements of a file of PostgreSQL or MySQL, each by itself and without comments."""
+    found, pieces = [], []
+    for piece in SQL_PIECE.finditer(text):
+        if not piece.group("comment"):
+            pieces.append(piece.group(0))
+        if piece.group(0) == ";":
+            found.append("".join(pieces).strip())
+            pieces = []
+    found = [statement for statement in found if statement.strip("; \t\r\n")]
+    return [(f"{path} statement {number + 1}", statement) for number, statement in enumerate(found)]
+
+
 class Language:
     """Where files are, by globs below a root; the other parser; what makes texts of a file, and what does where they are edited;
-    what is done to a text before `lrls` reads it; and, where nearly every text is accepted, a rule and what reads the texts of its
-    tokens."""
+    the grammar, where it has another name than the language; and, where nearly every text is accepted, a rule and what reads the
+    texts of its tokens."""
 
-    def __init__(self, globs, parser, texts=whole, edited=None, adapted=lambda text: text, words=None):
-        self.globs, self.parser, self.texts, self.adapted, self.words = globs, parser, texts, adapted, words
+    def __init__(self, globs, parser, texts=whole, edited=None, grammar=None, words=None):
+        self.globs, self.parser, self.texts, self.grammar, self.words = globs, parser, texts, grammar, words
         self.edited = edited or texts
 
     def files(self, roots):
@@ -307,12 +376,25 @@ def read(path):
             return None
 
 
+MYSQL = [
+    "usr/share/icinga*/**/*mysql*/**/*.sql",
+    "usr/share/icinga*/**/schema/mysql.sql",
+    "usr/share/phpmyadmin/sql/*.sql",
+]
+POSTGRESQL = [
+    "usr/share/icinga*/**/*pgsql*/**/*.sql",
+    "usr/share/icinga*/**/schema/pgsql.sql",
+    "usr/share/postgresql/*/*.sql",
+    "usr/share/postgresql/*/extension/*.sql",
+]
 LANGUAGES = {
-    "c": Language(
-        ["usr/include/*.h", "usr/share/doc/*/examples/**/*.c"], gcc, corpus_c.preprocessed, adapted=corpus_c.without_typedefs
-    ),
+    "c": Language(["usr/include/*.h", "usr/share/doc/*/examples/**/*.c", "*/src/**/*.c", "*/*.c"], gcc, corpus_c.preprocessed),
+    # As the files lie on the disk, before the preprocessor
+    "c-files": Language(["usr/share/doc/*/examples/**/*.c", "*/src/**/*.c", "*/*.c"], no_other, grammar="c"),
+    "control": Language(["*/debian/control", "var/lib/dpkg/status", "var/lib/dpkg/available"], python_debian),
     "css": Language(["usr/share/**/*.css"], tinycss),
     "dot": Language(["usr/share/doc/graphviz/examples/**/*.gv", "usr/share/doc/graphviz/examples/**/*.gv.gz"], graphviz),
+    "go": Language(["usr/share/go-*/**/*.go", "usr/share/gocode/**/*.go"], gofmt),
     "graphql": Language(["usr/share/gocode/**/*.graphql", "usr/share/nodejs/**/*.graphql"], node_graphql),
     "ini": Language(
         [
@@ -331,10 +413,14 @@ LANGUAGES = {
         [f"{STDLIB}/test/**/*.json", f"{PACKAGES}/**/*.json", "usr/share/**/*.json", "usr/lib/node_modules/**/*.json"], python_json
     ),
     "lua": Language(["usr/share/nvim/runtime/**/*.lua", "usr/share/luajit-*/**/*.lua"], luac),
+    "nginx": Language(["etc/nginx/**/*.conf", "etc/nginx/sites-available/*", "etc/nginx/*_params", "*/conf/*.conf"], no_other),
     "proto": Language(
         ["usr/include/google/**/*.proto", "usr/share/gocode/**/*.proto", "usr/share/grpc-proto/**/*.proto", "usr/share/cargo/**/*.proto"],
         protoc,
     ),
+    "scheme": Language(["usr/share/guile/**/*.scm", "usr/share/slib/**/*.scm"], guile),
+    "sql-mysql": Language(MYSQL, no_other, other_statements, edited=whole, grammar="sql"),
+    "sql-postgresql": Language(POSTGRESQL, no_other, other_statements, edited=whole, grammar="sql"),
     "sql": Language(
         [
             "usr/share/mediawiki/**/sqlite/**/*.sql",
