@@ -51,6 +51,11 @@ TEXTS = {
         "Package: a\nDepends: b,\n# a comment\n c (>= 1)\n\n\nPackage: d\n",
         "# a comment before all\n\nFormat: 1.0\nFiles:\n 0 1 a\n",
     ],
+    "glsl": [
+        "#version 300 es\nprecision highp float;\nin vec2 a; out vec4 b;\nuniform sampler2D c;\nvoid main() { b = texture(c, a); }",
+        "layout(std140) uniform A { mat4 b; } c; struct D { vec3 e; }; D f(D g) { D h = D(g.e * 2.0); return h; }",
+        "varying HIGHP vec2 a; float b[3]; void main() { for (int i = 0; i < 3; i++) { b[i] = float(i) / 2.0; } }",
+    ],
     "go": [
         "// a comment\n\npackage a // another\n\n/* and\none more */\nimport \"fmt\"\n\nfunc main() { fmt.Println(\"a\") }",
         "package a\nvar b = []c{\n\t{1, 2}, // one\n\t{3, 4},\n}\n",

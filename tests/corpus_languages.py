@@ -278,13 +278,25 @@ READ_ALL = "(let loop () (if (not (eof-object? (read))) (loop)))"
 
 
 def guile(roots):
-    program(["guile"], "guile-3.0")
+    name = program(["guile", "guile-3.0"], "guile-3.0")
 
     def parse(text):
-        status, _, err = ran(["guile", "--no-auto-compile", "-c", READ_ALL], text)
+        status, _, err = ran([name, "--no-auto-compile", "-c", READ_ALL], text)
         return first_line(err) or "refused" if status else None
 
     return "guile's read", parse
+
+
+def glslang(roots):
+    """Each text as a shader of fragments. Only a syntax error is one of form."""
+    program(["glslangValidator"], "glslang-tools")
+
+    def parse(text):
+        status, out, _ = ran(["glslangValidator", "--stdin", "-S", "frag"], text)
+        faults = [line for line in out.split("\n") if "syntax error" in line]
+        return first_line(faults[0]) if faults else Meaning(first_line(out)) if status else None
+
+    return "glslangValidator", parse
 
 
 def python_debian(roots):
@@ -296,7 +308,7 @@ def python_debian(roots):
 
     def parse(text):
         try:
-            for paragraph in deb822.Deb822.iter_paragraphs(io.StringIO(text), use_apt_pkg=False, strict={"whitespace-separates-paragraphs": True}):
+            for paragraph in deb822.Deb822.iter_paragraphs(io.StringIO(text), use_apt_pkg=False):
                 list(paragraph.items())
         except (ValueError, EOFError) as fault:
             return str(fault)
@@ -394,6 +406,7 @@ LANGUAGES = {
     "control": Language(["*/debian/control", "var/lib/dpkg/status", "var/lib/dpkg/available"], python_debian),
     "css": Language(["usr/share/**/*.css"], tinycss),
     "dot": Language(["usr/share/doc/graphviz/examples/**/*.gv", "usr/share/doc/graphviz/examples/**/*.gv.gz"], graphviz),
+    "glsl": Language(["usr/share/**/*.frag", "usr/share/**/*.vert", "usr/share/**/*.glsl"], glslang),
     "go": Language(["usr/share/go-*/**/*.go", "usr/share/gocode/**/*.go"], gofmt),
     "graphql": Language(["usr/share/gocode/**/*.graphql", "usr/share/nodejs/**/*.graphql"], node_graphql),
     "ini": Language(

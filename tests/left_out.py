@@ -12,6 +12,7 @@ ROWS = [
     ("control.txt", "Source: parts\n", "Source: parts\n: more\n", "NEWLINE"),
     ("css.css", "0.25rem)", "0.25rem", "RP"),
     ("dot.dot", "fontsize=10]", "fontsize=10", "RBRACKET"),
+    ("glsl.frag", "bits -= 1;", "bits -= 1", "SEMICOLON"),
     ("go.go", "each(value)\n", "each(value\n", "RP"),
     ("go.go", "T(item)\n", "T(item) item\n", "RBRACE"),
     ("graphql.graphql", "{ name: String }", "{ name String }", "COLON"),
