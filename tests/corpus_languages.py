@@ -400,9 +400,9 @@ POSTGRESQL = [
     "usr/share/postgresql/*/extension/*.sql",
 ]
 LANGUAGES = {
-    "c": Language(["usr/include/*.h", "usr/share/doc/*/examples/**/*.c", "*/src/**/*.c", "*/*.c"], gcc, corpus_c.preprocessed),
+    "c": Language(["usr/include/*.h", "usr/share/doc/*/examples/**/*.c", "*-[0-9]*/**/*.c"], gcc, corpus_c.preprocessed),
     # As the files lie on the disk, before the preprocessor
-    "c-files": Language(["usr/share/doc/*/examples/**/*.c", "*/src/**/*.c", "*/*.c"], no_other, grammar="c"),
+    "c-files": Language(["usr/share/doc/*/examples/**/*.c", "*-[0-9]*/**/*.c"], no_other, grammar="c"),
     "control": Language(["*/debian/control", "var/lib/dpkg/status", "var/lib/dpkg/available"], python_debian),
     "css": Language(["usr/share/**/*.css"], tinycss),
     "dot": Language(["usr/share/doc/graphviz/examples/**/*.gv", "usr/share/doc/graphviz/examples/**/*.gv.gz"], graphviz),

@@ -29,6 +29,12 @@ def replaced(old, new):
     return lambda written: re.sub(old, new, written)
 
 
+# The place of diagnostics with none
+INVENTED = (
+    b'"diagnostics":[{"message":"unexpected end; expected end","range":{"end":{"character":0,"line":0},'
+    b'"start":{"character":0,"line":0}},"severity":1,"source":"lrls"}]'
+)
+
 SPOILS = [
     Spoil("usage has status 1", ["command_lines"], status=lambda words, err, status: 1 if err.startswith(b"usage") else status),
     Spoil("a grammar that can't be read has status 2", ["files"], status=lambda words, err, status: 2 if b"cannot" in err else status),
@@ -53,7 +59,8 @@ SPOILS = [
     Spoil("no node for a file", ["grammars_as_texts"], out=replaced(rb"^\(File ", b"(")),
     Spoil("a byte of a reply", ["message_rows", "transcript_rows", "session"], reply=replaced(rb"\}$", b"]")),
     Spoil("a code of an error", ["message_rows"], reply=replaced(rb"-32601", b"-32600")),
-    Spoil("a dropped diagnostic", ["message_rows", "session", "nesting"], reply=replaced(rb'"diagnostics":\[.*?\],"uri"', b'"diagnostics":[],"uri"')),
+    Spoil("an invented diagnostic", ["real_forms", "head_examples"], reply=replaced(rb'"diagnostics":\[\]', INVENTED)),
+    Spoil("a dropped diagnostic", ["message_rows", "session", "nesting", "head_examples"], reply=replaced(rb'"diagnostics":\[.*?\],"uri"', b'"diagnostics":[],"uri"')),
     Spoil("a length that is one too much", ["streams", "session"], length=1),
     Spoil("each reply twice", ["streams", "transcript_rows", "session"], times=2),
     Spoil("no replies", ["streams", "session", "nesting"], times=0),

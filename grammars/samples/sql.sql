@@ -83,7 +83,7 @@ DROP TABLE a, b CASCADE; DROP SCHEMA private CASCADE;
 GRANT SELECT ON book TO me; SET search_path TO private; COMMENT ON TABLE book IS E'It\'s';
 ROLLBACK TO here; ROLLBACK WORK TO SAVEPOINT here; COMMIT WORK;
 INSERT INTO book (id) VALUES (DEFAULT) ON CONFLICT DO NOTHING;
-INSERT INTO book SELECT 1 RETURNING id;
+INSERT OR IGNORE INTO book SELECT 1 RETURNING id;
 UPDATE book SET page = DEFAULT, (id, shelf) = (SELECT 1, 2), "key" = left('a', 1) || right('b', 1) || if(1, 2, 3) RETURNING *;
 DELETE FROM book USING shelf s WHERE s.id = book.shelf;
 SELECT DISTINCT ON (id) id, comment, key, a[1], array[1, 2], '1'::int, DATE '2026-01-01', ~ 1, a -> 'b', count(*) FILTER (WHERE id > 1),
