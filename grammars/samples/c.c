@@ -101,7 +101,7 @@ LIST_HEAD(grids, job) grid[2][3];
 *forward;
 static_assert(sizeof(size) >= 4, "a size " NOTE);
 __attribute__((visibility("default"))) int shown;
-size __attribute__((aligned(8))) wide = 1, *__attribute__((unused)) far __attribute__((unused));
+size __attribute__((aligned(8))) wide = 1, *__attribute__((unused)) far __attribute__((unused)), __attribute__((unused)) near;
 static const __attribute__((unused)) size places UNUSED __asm__("places") = 3;
 struct __attribute__((packed)) packed {
     LIST_LINK(job) links;
