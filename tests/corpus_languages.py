@@ -425,7 +425,7 @@ LANGUAGES = {
     "json": Language(
         [f"{STDLIB}/test/**/*.json", f"{PACKAGES}/**/*.json", "usr/share/**/*.json", "usr/lib/node_modules/**/*.json"], python_json
     ),
-    "lua": Language(["usr/share/nvim/runtime/**/*.lua", "usr/share/luajit-*/**/*.lua"], luac),
+    "lua": Language(["usr/share/**/*.lua", "usr/lib/**/*.lua"], luac),
     "nginx": Language(["etc/nginx/**/*.conf", "etc/nginx/sites-available/*", "etc/nginx/*_params", "*/conf/*.conf"], no_other),
     "proto": Language(
         ["usr/include/google/**/*.proto", "usr/share/gocode/**/*.proto", "usr/share/grpc-proto/**/*.proto", "usr/share/cargo/**/*.proto"],

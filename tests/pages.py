@@ -25,6 +25,7 @@ from serving import PATIENCE
 SHOWN = [
     ["Line", "Meaning"],
     ["Wanted", "Why it can't be said", "What to do"],
+    ["Texts", "How many", "Beside", "Both accept", "Both refuse", "Only the other accepts", "Only `lrls` accepts"],
 ]
 
 # A grammar file's fault, or a conflict, or a fault of a text: by these words a message is known.
