@@ -341,7 +341,8 @@ def statements(path, text):
 
 # A string, a quoted name, a comment, a text between dollars, a line of the terminal's own, the end of a statement, and what is else
 SQL_PIECE = re.compile(
-    r"""'(?:[^'\\]|''|\\.)*'|"[^"]*"|`[^`]*`|(?P<comment>--[^\n]*|/\*.*?\*/)|(?P<dollars>\$\w*\$).*?(?P=dollars)|\\[^\n]*|;|[^'"`\-/$\\;]+|.""",
+    r"""'(?:[^'\\]|''|\\.)*'|"[^"]*"|`[^`]*`|(?P<comment>--[^\n]*|/\*.*?\*/)"""
+    r"""|(?P<dollars>\$\w*\$).*?(?P=dollars)|\\[^\n]*|;|[^'"`\-/$\\;]+|.""",
     re.DOTALL,
 )
 

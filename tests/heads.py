@@ -1,8 +1,10 @@
-"""The heads of grammars/*.lr say what a grammar leaves out of its language, and what it accepts beyond it, each with examples.
+"""The heads of grammars/*.lr say what a grammar leaves out of its language, and what it accepts beyond
+it, each with examples.
 
-A head is the comment below a file's first line. Its parts `Left out ..` and `Accepted beyond ..` go on up to the next part or the end
-of the head, and each text in backquotes there is a whole text of the language: one that is refused, and one that is accepted. `\\n` in
-it is a line end, `\\t` a tab, and a doubled backslash is one. So a head can't say more, or less, than what is so.
+A head is the comment below a file's first line. Its parts `Left out ..` and `Accepted beyond ..` go on
+up to the next part or the end of the head, and each text in backquotes there is a whole text of the
+language: one that is refused, and one that is accepted. `\\n` in it is a line end, `\\t` a tab, and a
+doubled backslash is one. So a head can say neither more nor less than what is so.
 """
 
 import re
