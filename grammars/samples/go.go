@@ -38,6 +38,7 @@ type Job struct {
 }
 type List[T any, S fmt.Stringer, U ~[]int | T, W map[T]S | chan T, X List[T],] struct { items [2]T }
 type none interface{}
+type nested chan (<-chan int)
 
 func (job *Job) Run(int, *Job, List[int], fmt.Stringer, io.List[int], []int, ...string) <-chan int
 
@@ -49,6 +50,7 @@ func Sum[K comparable, V Number](values map[K]V, each func(V, K,) V) (total V) {
 }
 
 func assembler(a, b int) [4]int
+func unnamed((int))
 func channels() (chan<- int, <-chan int, chan int) { return nil, nil, nil }
 func make2() List[int] { return List[int]{} }
 
