@@ -92,6 +92,7 @@ size (*current)(const job_link *, size);
 size (*rows)[4], (*columns[2]) = EMPTY;
 static size (*chosen)(const job_link *list, size most) = 0;
 FAST const size (*last)[2] = 0;
+extern size (*common)(size) __attribute__((unused)); int (*kin)(size) __attribute__((unused)) = 0;
 MODULE(queue, "jobs" NOTE, 1, 'q', 1.5, (deep), table[2], pick(one), link(two)*, link(three) *four, size (*five)(int))
 MODULE(, queue)
 MODULE("queue")
