@@ -5,12 +5,12 @@
 //! so many times, and then fails, and bytes that are written take memory.
 #![tactic(auto)]
 
+mod any_session;
 mod few_bytes;
 mod memory;
-mod promised;
 mod typed;
 
+pub use any_session::promised;
 pub use few_bytes::{cut_short, no_json, then_no_frame, two_lengths};
 pub use memory::{Ran, over};
-pub use promised::promised;
 pub use typed::typing;

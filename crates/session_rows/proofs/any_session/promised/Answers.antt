@@ -1,5 +1,5 @@
 use Rattle.session_rows.proofs.Uses.{ends_as_fresh, leaves_the_other, mixed_alike, opens_unicode, replies_alike}
-use Rattle.session_rows.proofs.promised.promised.Goals as goal
+use Rattle.session_rows.proofs.any_session.promised.Goals as goal
 
 pub returns-clause-mixed : goal.returns-clause-mixed
 returns-clause-mixed c = mixed_alike c.args.language.file c.over.ensures.promises
