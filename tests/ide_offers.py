@@ -1,4 +1,6 @@
-"""What may follow at each place of a sample, by tests/trees, which shares nothing with `lrls` or with lrls-ide: Earley's algorithm."""
+"""What may follow at each place of a sample, by tests/trees: Earley's algorithm, and nothing of
+`lrls`. It reads patterns as ide/lrls_ide/grammar.py does, so a fault of that may be in both.
+"""
 
 import importlib.machinery
 import importlib.util

@@ -241,7 +241,7 @@ OFFERS = [
     ("lua", "if x th|", ["then"]),
 ]
 
-# A character of `let x = f(1); // done`, and how that begins what is told of it.
+# A character of `let x = f(1); // done`, and how its hover text begins.
 HOVERS = [
     (0, '**LET** "let"\n\nin Statement in Statement* in Program'),
     (4, '**NAME** "x"'),

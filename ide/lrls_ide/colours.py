@@ -17,8 +17,9 @@ NUMBERS = itertools.count(1)
 
 @dataclass
 class Paint:
-    """The colours of the tokens that begin in a line. Lines are counted from that one. The first part's place is told by itself, since
-    it is counted from what stands before it."""
+    """The colours of the tokens that begin in a line. Lines are counted from that one. `first` is
+    the place of the first part, kept apart: the protocol counts it from the token before the line.
+    """
 
     numbers: "array[int]"
     first: Place = (0, 0)

@@ -1,4 +1,4 @@
-"""What is told of a place: its token and the nodes around it, and at a fault what was expected."""
+"""Hover: what is shown at a place. Its token and the nodes around it, or what a fault expected."""
 
 from itertools import groupby
 from typing import Any
@@ -23,7 +23,7 @@ def fault_at(diagnostics: list[dict[str, Any]], place: Place) -> dict[str, Any] 
 
 
 def of_fault(wording: Wording, diagnostic: dict[str, Any], text: Text) -> dict[str, Any]:
-    """What is told of a fault: all that was expected."""
+    """The hover text of a fault: all that was expected."""
     verdict = Verdict([diagnostic])
     start, end = place_in(diagnostic["range"]["start"]), place_in(diagnostic["range"]["end"])
     found = text.between(start, end) if start is not None and end is not None else ""
@@ -38,7 +38,7 @@ def escaped(text: str) -> str:
 
 
 def of_token(row: Row, text: Text, structure: Structure, is_skipped: bool) -> dict[str, Any]:
-    """What is told of a token."""
+    """The hover text of a token: its rule, its text, and the nodes around it."""
     start, end = (row[1], row[2]), (row[3], row[4])
     lines = [f"**{row[0]}** {escaped(shown(text.between(start, end)))}"]
     lines += ["", "skipped: it is in no node"] if is_skipped else nodes_around(structure, start)

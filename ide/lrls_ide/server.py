@@ -108,7 +108,7 @@ class Server:
         task.add_done_callback(self.done)
 
     def done(self, task: "asyncio.Task[Any]") -> None:
-        """Some work is done. What it failed at is told, and the server goes on."""
+        """A background task has ended: prints its exception, if any."""
         self.others.discard(task)
         if not task.cancelled() and task.exception() is not None:
             traceback.print_exception(task.exception(), file=sys.stderr)
@@ -152,7 +152,7 @@ class Server:
             self.in_trouble(read_fault(printed, self.source.grammar))
 
     async def start_again(self, why: str | None) -> None:
-        """Starts a core and brings it to where the last one was. `why` is told, where the last one has ended by itself."""
+        """Starts a core and brings it to where the last one was. `why` is shown where the last one has ended by itself."""
         self.is_starting = True
         try:
             core, result, language = await self.started()
@@ -267,7 +267,7 @@ class Server:
         }
 
     async def watch_files(self) -> None:
-        """Looks after the files of the language. What goes wrong at one writing is told, and the next one is looked at all the same."""
+        """Looks after the files of the language. What goes wrong at one writing is printed, and the next one is looked at all the same."""
         while True:
             try:
                 await self.watch_each()
