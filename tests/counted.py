@@ -90,7 +90,7 @@ def pages(top: str) -> Iterator[Tuple[str, str]]:
 
 
 def check(cases, top: str) -> None:
-    """Each number on the pages is the one that is counted, and README.md is short."""
+    """Each number on the pages is the one that is counted."""
     there = counts(top)
     text = dict(pages(top))
     for page in PAGES:
@@ -100,4 +100,3 @@ def check(cases, top: str) -> None:
     cases.check("docs/THEOREM.md says how many definitions are marked", [under_run], said(theorem, r"it has these (\d+),"))
     hole = NAMED[holes(top)]
     cases.check("docs/THEOREM.md says how many lines its search for holes prints", [hole], said(theorem, r"prints (\w+) lines of comments"))
-    cases.check("README.md has at most 1,800 words", True, len(text["README.md"].split()) <= 1_800)

@@ -12,6 +12,7 @@ import clauses
 import counted
 import definitions as definitions_page
 import libraries
+import said_twice
 from rows import UNDER_RUN, Guards
 from specs import Definitions, files_of, imports_of, lines_of, words_of_run
 
@@ -194,4 +195,5 @@ def check(cases, top):
     cases.check("no line of a proof is too wide", [], wide_proofs(top))
     cases.check("each name that a contract's file brings in is named there", [], idle_imports(top))
     cases.check("each name that a `proofs/Common` passes on is taken from there", [], idle_in_common(top))
+    said_twice.check(cases, top)
     libraries.check(cases, top)
