@@ -1,10 +1,14 @@
-"""Links of Markdown pages, and where they lead."""
+"""Links of Markdown pages, and where they lead; the files that pages name in backquotes."""
 
 import os
 import re
+from typing import List
 
 LINK = re.compile(r"\[[^\]]*\]\(([^)\s]+)\)")
 HEADING = re.compile(r"^#+ +(.*)$", re.MULTILINE)
+CODE = re.compile(r"`([^`\n]+)`")
+FOLDERS = ("bench", "crates", "docs", "editors", "grammars", "ide", "man", "script", "tests")
+FILE = re.compile(rf"(?:{'|'.join(FOLDERS)})/[\w./-]*|[A-Z]+\.md|crates\.txt")
 FENCE = re.compile(r"^```.*?^```", re.MULTILINE | re.DOTALL)
 
 
@@ -44,3 +48,10 @@ def dead(path):
         file = os.path.join(folder, name) if name else path
         if not os.path.exists(file) or section and section not in anchors(read(file)):
             yield target
+
+
+def missing_files(path: str, top: str) -> List[str]:
+    """The files and folders that a page names in backquotes and that aren't in the repository."""
+    named = (code.strip().split(" ")[0] for code in CODE.findall(FENCE.sub("", read(path))))
+    files = filter(FILE.fullmatch, named)
+    return [name for name in files if not os.path.exists(os.path.join(top, name))]
