@@ -9,6 +9,7 @@ import os
 import re
 from typing import Dict, Iterator, List, NamedTuple
 
+from cases import Cases
 from specs import lines_of
 
 # Shorter ones are mostly names, or words that a table repeats.
@@ -85,7 +86,7 @@ def silent(top: str) -> List[str]:
     return [page for page in pages(top) if not any(sentences(top, page))]
 
 
-def check(cases, top: str) -> None:
+def check(cases: Cases, top: str) -> None:
     """No sentence stands twice, and each page has some."""
     cases.check("no page says a sentence that stands elsewhere", [], said_twice(top))
     cases.check("sentences are found on each page", [], silent(top))
