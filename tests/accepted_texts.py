@@ -62,6 +62,20 @@ TEXTS = {
         "package a\nfunc (b *c[d]) e(f, g int) (h error) {\n\tif i := b.j(f); i != nil {\n\t\treturn i\n\t}\n\treturn\n}\n",
         "package a\nfunc b() {\n\tfor c := 0; c < 2; c++ {\n\t\tselect {\n\t\tcase d := <-e:\n\t\tdefault:\n\t\t}\n\t}\n}\n",
         "package a\nfunc b[c any, d ~[]c](e d) {\n\tf(e).\n\t\tg().\n\t\th(func() { return })\n}\n",
+        # type parameters whose constraint begins with a bracket or a star
+        "package a; func b[c any, d *c, e [2]d | []c](f e) {}",
+        "package a; type b[c []int] struct{}; type d[e [f(func() {})]byte,] struct{}; type g[h, i *j | k] struct{}",
+        "package a; type b[c *d,] struct{}; type e[f *g, h any] struct{}; type i[j *[]k | l] struct{}",
+        # the length of an array behind the name of a type
+        "package a; type (b [c]d; e [c*2+1]d; f [2*c]d; g [c.d[1]]e; h [i(c)]d; j [c == 1 && d || e]f; k [-c]d)",
+        # conversions to types of lists, maps, channels, functions and structs, and what they hold
+        "package a; var b, c, d = [3]e(f), []g[h](i), [](j)(k)",
+        "package a; var b, c = map[[2]d][3]e(f), []interface{}(nil)",
+        "package a; var b, c, d, e = chan int(f), chan<- int(f), <-chan int(f), []chan int(f)",
+        "package a; var b, c, d = func() int(e), []func() int(e), struct{}(f)",
+        # channels of channels, and methods of types without a name
+        "package a; var b chan<- chan<- chan<- int; var c = (chan <- chan <- int)(nil)",
+        "package a; var b, c = interface{ d(string) }.d, struct{ e }.f",
     ],
     "lua": [
         "#!/usr/bin/env lua\nprint(1)",

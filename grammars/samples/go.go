@@ -117,3 +117,22 @@ end:
 again: return nil
 last:
 }
+
+// Behind the name of a type: the length of an array, or type parameters
+type (
+	anyLength [...]int; slice []*Job; pointer *Job; same Job; ints List[int]; inside (*Job)
+	most [Most]int; two2 [2 * 3]int; product [Most * 2 / 3]int; quotient [Most / 2]int; bit [Most & 1]int
+	sum [Most + 1*2]int; test [Most == 1 && two < 2 || three]int; minus [-Most]int; value [*Most]int
+	member [math.Most]int; size [len(name)]int; part [Job{}.size[1]]int; of [value.(int)]int
+	all [unsafe.Sizeof(1)]int; least [io.Job{}.size.(int)]int
+	listed[T []int, P *T, Q [2]T,] struct{}
+	pointed[P *T,] struct{}; two3[P *T, Q any] struct{}; deep[P **[]int | T] struct{}
+	some[T, S []int | P] struct{}; near[T ~[]int] struct{}; of2[T List[int]] struct{}; made[T interface{}] struct{}
+)
+
+func address[V any, P *V, L [2]V | []V](value V) P {
+	to := (chan<- chan<- int)(nil); from := interface{ m1(string) }.m1; mixed := struct{ Job }.Run
+	calls := map[[2]int][3]*Job(nil); lists := []List[int](nil); inner := [](Job)(nil); nothing := []struct{}(nil)
+	one := chan int(to); other := chan<- int(to); third := <-chan int(to); fourth := func(int) error(nil)
+	return &value
+}
