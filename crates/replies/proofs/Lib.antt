@@ -1,5 +1,5 @@
 pub mod Common
-mod Replies
-mod SentItems
-mod Objects
+pub mod Replies
+pub mod SentItems
+pub mod Objects
 mod ReplyRows

@@ -1,11 +1,11 @@
 -- No reply has a number with a fraction.
 use Rattle.replies.proofs.Common.{◌≡◌, ℕ, ℤ, pos, negsuc, false, List, [], ◌∷◌, map, refl, ap, ◌∙◌, ◌||◌, Option, Some, None, Range, Data, null, number, string, of_integer, items_of, has_float, items_have_float, Ident, named, numbered, Answer, capabilities_reply, null_reply, text_reply, tokens_reply, tree_reply, stats_reply, folds_reply, selections_reply, published_diagnostics, log_message, error_reply, capabilities, id_data, maybe_id_data, row_data, result_data, reply_data, document_data, rows_data, stats_data, fold_data, folds_data, selection_data, selections_data, diagnostic_list, published, code_of}
 
-integer_is_whole : (z : ℤ) → has_float (number (of_integer z)) ≡ false
+pub integer_is_whole : (z : ℤ) → has_float (number (of_integer z)) ≡ false
 integer_is_whole (pos n) = refl
 integer_is_whole (negsuc n) = refl
 
-id_is_whole : (id : Ident) → has_float (id_data id) ≡ false
+pub id_is_whole : (id : Ident) → has_float (id_data id) ≡ false
 id_is_whole (named text) = refl
 id_is_whole (numbered z) = integer_is_whole z
 
@@ -35,7 +35,7 @@ published_is_whole uri None (Some d) = refl
 published_is_whole uri (Some version) None = ap (λ b. b || false) (integer_is_whole version)
 published_is_whole uri (Some version) (Some d) = ap (λ b. b || false) (integer_is_whole version)
 
-result_is_whole : (id outcome : Data) → has_float id ≡ false → has_float outcome ≡ false → has_float (result_data id outcome) ≡ false
+pub result_is_whole : (id outcome : Data) → has_float id ≡ false → has_float outcome ≡ false → has_float (result_data id outcome) ≡ false
 result_is_whole id outcome e f = ap (λ b. b || (has_float outcome || false)) e ∙ ap (λ b. b || false) f
 
 pub reply_is_whole : (a : Answer) → has_float (reply_data a) ≡ false

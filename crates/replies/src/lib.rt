@@ -3,7 +3,8 @@
 //!
 //! `to_bytes` writes a `Reply` as compact JSON, with the keys of each object in byte order. Its
 //! one error is that memory ran out. It writes the reply part by part: nothing of it is copied
-//! before, and no JSON value is built.
+//! before, and no JSON value is built. `send_reply`, `send_id`, `send_integer`, `send_range`,
+//! `send_synchronisation` and `unit_name` are for a server that has replies of its own.
 //!
 //! Words: a `Reply` is a result, an error, published diagnostics or a log message. An `Id` names
 //! the request that is answered; a `Refusal` says why it is refused, a `Loss` why a document was
@@ -29,5 +30,7 @@ mod sending;
 
 pub use definitions::{Diagnostic, Position, Range, Row, Stats, Unit};
 pub use id::Id;
-pub use reply::{Log, Loss, Refusal, Reply};
-pub use sending::to_bytes;
+pub use parts::{send_id, send_integer, send_range};
+pub use reply::{Log, Loss, Refusal, Reply, unit_name};
+pub use results::send_synchronisation;
+pub use sending::{send_reply, to_bytes};

@@ -12,16 +12,16 @@ use definitions::{Position, Range};
 use serde::{Serialize, Serializer};
 use serde_json::Value;
 
-/// A whole number.
-pub(crate) fn send_integer<S: Serializer>(value: i32, out: &mut S) -> Result<(), S::Error>
+/// A whole number, for the JSON writer.
+pub fn send_integer<S: Serializer>(value: i32, out: &mut S) -> Result<(), S::Error>
     ensures { OnOk result
         (SendsValue (number (of_integer value)) (S.written out.old) (S.written out.new)) }
 {
     Value::from(value).serialize(out)
 }
 
-/// An id.
-pub(crate) fn send_id<S: Serializer>(id: &Id, out: &mut S) -> Result<(), S::Error>
+/// An id, for the JSON writer.
+pub fn send_id<S: Serializer>(id: &Id, out: &mut S) -> Result<(), S::Error>
     ensures { OnOk result
         (SendsValue (id_data (id_view id.now)) (S.written out.old) (S.written out.new)) }
 {
@@ -55,8 +55,8 @@ fn send_position<S: Serializer>(position: Position, out: &mut S) -> Result<(), S
     out.end_map()
 }
 
-/// A range (LSP 3.17, "Range").
-pub(crate) fn send_range<S: Serializer>(range: Range, out: &mut S) -> Result<(), S::Error>
+/// A range (LSP 3.17, "Range"), for the JSON writer.
+pub fn send_range<S: Serializer>(range: Range, out: &mut S) -> Result<(), S::Error>
     ensures { OnOk result (SendsValue (range_data range) (S.written out.old) (S.written out.new)) }
 {
     out.begin_map(Some(2))?;

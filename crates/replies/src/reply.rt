@@ -165,7 +165,7 @@ pub(crate) fn message_text(refusal: Refusal) -> &'static str
 }
 
 /// The name of a unit (LSP 3.17, "PositionEncodingKind").
-pub(crate) fn unit_name(unit: Unit) -> &'static str
+pub fn unit_name(unit: Unit) -> &'static str
     ensures { result.now ≡ unit_name unit }
 {
     match unit {

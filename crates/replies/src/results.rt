@@ -37,8 +37,8 @@ fn send_rows<S: Serializer>(rows: &[Row], out: &mut S) -> Result<(), S::Error>
     out.end_seq()
 }
 
-/// How text is synchronised (LSP 3.17, "TextDocumentSyncOptions").
-fn send_synchronisation<S: Serializer>(out: &mut S) -> Result<(), S::Error>
+/// How text is synchronised (LSP 3.17, "TextDocumentSyncOptions"), for the JSON writer.
+pub fn send_synchronisation<S: Serializer>(out: &mut S) -> Result<(), S::Error>
     ensures { OnOk result (SendsValue synchronisation (S.written out.old) (S.written out.new)) }
 {
     out.begin_map(Some(2))?;

@@ -61,8 +61,8 @@ fn send_result<S: Serializer>(id: &Id, outcome: Outcome<'_>, out: &mut S) -> Res
     out.end_map()
 }
 
-/// A reply, diagnostics, or what is logged.
-fn send_reply<S: Serializer>(reply: &Reply, out: &mut S) -> Result<(), S::Error>
+/// A reply, diagnostics, or what is logged, for the JSON writer.
+pub fn send_reply<S: Serializer>(reply: &Reply, out: &mut S) -> Result<(), S::Error>
     ensures { OnOk result
         (SendsValue (reply_data (reply_view reply.now)) (S.written out.old) (S.written out.new)) }
 {

@@ -5,5 +5,8 @@ mod KnownMethods
 mod Strings
 mod Values
 mod Texts
+mod Plain
+mod WrittenMessages
 mod MessageRows
 mod ReceivedTextRows
+mod WritingRows

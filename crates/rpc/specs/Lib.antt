@@ -2,6 +2,7 @@ pub mod Fields
 pub mod Messages
 pub mod Reading
 pub mod Texts
+pub mod Writing
 pub use Rattle.definitions.specs.declared.Diagnostic
 pub use Rattle.definitions.specs.declared.Range
 pub use Rattle.definitions.specs.declared.Stats

@@ -51,7 +51,7 @@ fn position_of(value: &Value) -> Option<Position>
 }
 
 /// The position that stands under a key.
-fn position_at(value: &Value, key: &str) -> Option<Position>
+pub fn position_at(value: &Value, key: &str) -> Option<Position>
     ensures { result ≡ position_at key.now (view value.now) }
 {
     position_of(value.get(key)?)
