@@ -38,6 +38,11 @@ effect_left name old answers stop new (goes other is s) uri apart =
       subst (λ (given : List Answer). All (λ a. ¬ Publishes uri a) given) (sym s.0) (All-from_recursion (λ a. ¬ Publishes uri a) given (λ p. away (sym p), tt)),
     )
 
+-- what a step leaves of a document that it does not name
+pub step_leaves : (old : State) (received : Received) (answers : List Answer) (stop : Option ℕ) (new : State) → Step old received answers stop new
+    → (uri : List ℕ) → named received ≢ Some uri → get new.documents uri ≡ get old.documents uri
+step_leaves old received answers stop new s uri apart = (effect_left (named received) old answers stop new (step_effect old answers stop new received s) uri apart).0
+
 -- ---- a message that names it
 
 -- what the last edit is

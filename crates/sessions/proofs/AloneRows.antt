@@ -6,17 +6,19 @@ use Rattle.std.specs.Prelude.{◌≡◌, ◌≢◌, ℕ, pos, true, false, List,
 use Rattle.std.specs.Str.{chars, is_utf8}
 use Rattle.std.proofs.Common.{ap, arith, inl, inr, sym, subst, ◌∙◌}
 use Rattle.std.proofs.lemmas.Cmp.{nat_list_cmp_total}
+use Rattle.std.proofs.lemmas.List.Elements.{All-from_recursion}
 use Rattle.readings.specs.Grammars.{FileGrammar}
 use Rattle.readings.specs.Texts.{OpenDocument}
 use Rattle.rpc.specs.Ids.{Ident, numbered}
 use Rattle.rpc.specs.Loss.TheVariants as loss
-use Rattle.rpc.specs.Messages.{Received, about, its_text, open_text, change_text, request, notification, accepted}
+use Rattle.rpc.specs.Messages.{Received, about, its_text, open_text, change_text, request, notification, accepted, initialize, shutdown, initialized, exit, ignored, unread}
 use Rattle.rpc.specs.Reading.{received_in}
 use Rattle.rpc.specs.Refusal.TheVariants as refusal
 use Rattle.rpc.specs.Replies.{Answer, error_reply}
 use Rattle.rpc.specs.Unit.TheVariants.{Utf16}
 use Rattle.serde_json.proofs.OnLiterals.{serde_json_on_literals}
 use Rattle.sessions.specs.Alone.{loses, loses_memory, AreAlikeFor, SameFor, EachDocumentIsAlone, EachRunHasAHistory, HistoriesDecide, Event, event_in, Notes, History}
+use Rattle.sessions.specs.Alone.{is_lifecycle, concerns, concerning, OthersCanBeLeftOut}
 use Rattle.sessions.specs.Answers.{but_nodes}
 use Rattle.sessions.specs.Documents.{is_open, is_lost, Held, has_room}
 use Rattle.sessions.specs.Fresh.{Publishes}
@@ -298,3 +300,31 @@ module _ (file : FileGrammar) where
   -- each run has a history
   has_history : EachRunHasAHistory → (events : List Event) × (sent : List Answer) × History uri new (asks ∷ asks_other ∷ []) (too_early 1 ∷ too_early 2 ∷ []) None new events sent
   has_history law = law uri new (asks ∷ asks_other ∷ []) (too_early 1 ∷ too_early 2 ∷ []) None new run_of_two
+
+-- ---- what concerns a document
+
+-- the messages of the phase concern every document
+decides : (is_lifecycle (accepted (request (id 1) (initialize Utf16))) ≡ true) × (is_lifecycle (accepted (request (id 1) shutdown)) ≡ true)
+    × (is_lifecycle (accepted (notification exit)) ≡ true)
+decides = (refl, refl, refl)
+
+decides_nothing : (is_lifecycle asked ≡ false) × (is_lifecycle (accepted (notification initialized)) ≡ false) × (is_lifecycle (accepted ignored) ≡ false)
+decides_nothing = (refl, refl, refl)
+
+concerned : (concerns uri asked ≡ true) × (concerns uri (accepted (notification exit)) ≡ true) × (concerns uri (accepted (notification (open_text uri (pos 1) []))) ≡ true)
+concerned = (refl, refl, refl)
+
+unconcerned : (concerns uri asked_other ≡ false) × (concerns uri (accepted (notification initialized)) ≡ false) × (concerns uri unread ≡ false)
+unconcerned = (refl, refl, refl)
+
+kept : concerning uri (asks_other ∷ asks ∷ asks_other ∷ []) ≡ asks ∷ []
+unfolding chars encode_utf8 is_utf8 serde_json_on_literals
+kept = refl
+
+-- the question about the other document can be left out
+left_out : (file : FileGrammar) → OthersCanBeLeftOut file → (answers : List Answer) (stop : Option ℕ) (after : State) (e : Event) (sent : List Answer)
+    → History uri (first_state file) (asks ∷ []) answers stop after (e ∷ []) sent → e.refused ≡ false → (map but_nodes sent ≡ too_early 1 ∷ []) × (stop ≡ None)
+unfolding chars encode_utf8 is_utf8 serde_json_on_literals
+left_out file law answers stop after e sent h kept =
+    law uri (asks_other ∷ asks ∷ []) (too_early 2 ∷ too_early 1 ∷ []) answers None stop (new file) after (event ∷ []) (e ∷ []) (too_early 1 ∷ []) sent
+    (other_first file) h (All-from_recursion (λ (x : Event). x.room ≡ true) (event ∷ []) (refl, tt)) (ap (λ b. b ∷ []) kept)

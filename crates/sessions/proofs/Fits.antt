@@ -2,7 +2,7 @@
 use Rattle.sessions.proofs.Common.{◌≡◌, ℕ, Bool, true, false, cond, List, [], ◌∷◌, ◌++◌, sym, ap, subst, ◌∙◌, Option, Some, None, MatchOption, nat_cmp, eq_by_cmp, slice_cmp, empty, get, insert, remove, get-empty, get-insert, get-remove, nat_list_cmp_total, AlwaysAnswers, OpenDocument, fits, FileGrammar, Received, received_in, Answer, DocumentState, is_open, is_lost, Held, Run, AllFit, CanServe, State, first_state, Step, New}
 use Rattle.sessions.proofs.Effects.{AreOfPhase, IsOfPhase, Effect, stays, stands, goes, step_effect}
 
-none_fits : AllFit empty
+pub none_fits : AllFit empty
 none_fits uri document found = absurd (let e : Some (is_open document) ≡ None = sym found ∙ get-empty (slice_cmp nat_cmp) uri in let f : ⊥ = cc in f)
 
 pub none_stand : AreOfPhase New empty

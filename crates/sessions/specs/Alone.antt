@@ -1,12 +1,13 @@
 -- What is sent about a document depends on what is received about it: the messages that name it, the phase at each, the room for it where
 -- it is opened, and whether memory was refused in its changes.
-use Rattle.std.specs.Prelude.{◌≡◌, ◌≢◌, ◌⊎◌, ℕ, Bool, true, false, List, [], ◌∷◌, ◌++◌, map, All, Option, Some, None, MatchOption}
+use Rattle.std.specs.Prelude.{◌≡◌, ◌≢◌, ◌⊎◌, ℕ, Bool, true, false, ◌||◌, List, [], ◌∷◌, ◌++◌, map, filter, All, Option, Some, None}
+use Rattle.std.specs.Prelude.{MatchOption}
 use Rattle.std.specs.FinMap.{get}
 use Rattle.readings.specs.Grammars.{FileGrammar}
 use Rattle.rpc.specs.Loss.TheVariants.{Memory}
 use Rattle.rpc.specs.Messages.{request, about, stats, notification, open_text, change_text, close, malformed, unfit_change, Received}
-use Rattle.rpc.specs.Messages.{accepted}
-use Rattle.rpc.specs.Reading.{received_in}
+use Rattle.rpc.specs.Messages.{accepted, initialize, shutdown, exit}
+use Rattle.rpc.specs.Reading.{received_in, is_text}
 use Rattle.rpc.specs.Replies.{Answer}
 use Rattle.sessions.specs.Answers.{but_nodes}
 use Rattle.sessions.specs.Documents.{DocumentState, is_open, is_lost, has_room}
@@ -117,3 +118,32 @@ HistoriesDecide file =
     → History uri (first_state file) contents answers stop new events sent
     → History uri (first_state file) others other_answers other_stop other events other_sent
     → SendTheSame sent other_sent
+
+-- ---- the messages that concern no other document
+
+-- whether a message may change the phase or end the session: `initialize`, `shutdown` and `exit` (LSP 3.17, "Server lifecycle")
+abbrev pub is_lifecycle : Received → Bool
+is_lifecycle (accepted (request id (initialize unit))) = true
+is_lifecycle (accepted (request id shutdown)) = true
+is_lifecycle (accepted (notification exit)) = true
+is_lifecycle _ = false
+
+-- `concerns uri received`: the message names the document of the URI, or is one of `is_lifecycle`
+abbrev pub concerns : List ℕ → Received → Bool
+concerns uri received = is_lifecycle received || is_text uri (named received)
+
+-- `concerning uri contents`: these contents without those that name another document, or none, but for those of `is_lifecycle`
+abbrev pub concerning : List ℕ → List (List ℕ) → List (List ℕ)
+concerning uri contents = filter (λ content. concerns uri (received_in content)) contents
+
+-- where all messages that name another document, or none, are left out, but for those of `is_lifecycle`, the same is sent about the
+-- document (`SendTheSame`), and the session stops alike; if there was room for the document wherever it was opened, and memory is refused
+-- in both within the same of its changes
+abbrev pub OthersCanBeLeftOut : FileGrammar → Type 0
+OthersCanBeLeftOut file =
+    (uri : List ℕ) (contents : List (List ℕ)) (answers other_answers : List Answer) (stop other_stop : Option ℕ) (new other : State)
+    (events other_events : List Event) (sent other_sent : List Answer)
+    → History uri (first_state file) contents answers stop new events sent
+    → History uri (first_state file) (concerning uri contents) other_answers other_stop other other_events other_sent
+    → All (λ e. e.room ≡ true) events → map (λ e. e.refused) other_events ≡ map (λ e. e.refused) events
+    → SendTheSame sent other_sent × (other_stop ≡ stop)

@@ -6,6 +6,8 @@ pub mod Steps
 pub mod Serving
 pub mod Sent
 pub mod Runs
+pub mod Replies
+pub mod Sizes
 pub mod Sessions
 pub mod Fresh
 pub mod Alone
