@@ -4,7 +4,10 @@ ghost use Rattle.std.specs.Prelude.{◌≡◌, ◌↔◌, Option, Err, None, Som
 ghost use Rattle.std.specs.Str.{chars};
 ghost use Rattle.definitions.specs.Answers.{Diagnostic as Fault};
 ghost use Rattle.definitions.specs.Text.{changed, offset};
+ghost use Rattle.definitions.specs.Tokens.{AreTokens};
+ghost use Rattle.lexer.specs.Rescans.{significant_kinds};
 ghost use Rattle.lexer.specs.Tokens.{plain};
+ghost use Rattle.parser.specs.Parses.{IsParseOf};
 ghost use Rattle.parser.specs.declared.parse.Verdict.TheVariants as Verdict;
 ghost use Rattle.trees.specs.declared.store.NodeId.{NodeId};
 ghost use Rattle.readings.specs.Contents.{AreFoldsOf, IsSelectionOf};
@@ -193,6 +196,46 @@ impl Doc {
             → IsCurrent language self.old → IsCurrent language self.new }
     {
         self.version = version;
+    }
+
+    /// The unit that the document's positions count.
+    pub fn unit(&self) -> Unit
+        ensures { result ≡ self.now.unit }
+    {
+        self.unit
+    }
+
+    /// The text itself, lent.
+    pub fn characters(&self) -> &Text
+        ensures { result.now ≡ self.now.text }
+    {
+        &self.text
+    }
+
+    /// The tokens of the text, lent: those of the definitions.
+    pub fn tokens(&self) -> &Tokens
+        ensures is { result.now ≡ self.now.tokens }
+        ensures tokens { (language : LanguageData) → IsCurrent language self.now
+            → AreTokens language.file.patterns self.now.text (map plain result.now.items) }
+    {
+        &self.tokens
+    }
+
+    /// The parse of the tokens, lent: that of their kinds by the tables of the language.
+    pub fn parse(&self) -> &Parse
+        ensures is { result.now ≡ self.now.parse }
+        ensures parse { (language : LanguageData) → IsCurrent language self.now
+            → IsParseOf language.tables (significant_kinds self.now.tokens.items) self.now.store
+            result.now }
+    {
+        &self.parse
+    }
+
+    /// The store that has the nodes of the parse, lent.
+    pub fn nodes(&self) -> &Store
+        ensures { result.now ≡ self.now.store }
+    {
+        &self.store
     }
 
     /// The text in UTF-8. Refuses for memory alone.

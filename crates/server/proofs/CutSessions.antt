@@ -1,32 +1,8 @@
 -- Sessions that are cut short: a prefix of the answers of a run is written.
 use Rattle.server.proofs.Common.{ℕ, List, [], ◌++◌, refl, ap, sym, subst, ◌∙◌, append_assoc, ◌≡◌, Option, Some, None, Result, Ok, Err, OnErr, Appends, Keeps, State, bytes_of, AppendsPrefix, Served, ServedInPart, HasServed, CanServe, IsCutShort, RunFault, some_run}
 use Rattle.std.proofs.Common.{append-nil}
-use Rattle.server.proofs.Runs.{run_then, run_on, appends_then, appends_nothing, bytes_then}
-
--- what holds anyway
-pub on_err : {T E : Type 0} (r : Result T E) (A : Type 0) → A → OnErr r A
-on_err (Ok x) A a = tt
-on_err (Err e) A a = a
-
-pub appends_kept : (old mid new : Option (List ℕ)) (xs : List ℕ) → Appends old mid xs → Keeps mid new → Appends old new xs
-appends_kept None mid new xs w k = tt
-appends_kept (Some bs) None new xs w k = absurd w
-appends_kept (Some bs) (Some cs) None xs w k = absurd k
-appends_kept (Some bs) (Some cs) (Some ds) xs w k = k ∙ w
-
--- the prefix of some bytes is a prefix of more
-pub prefix_of_more : (old new : Option (List ℕ)) (xs ys : List ℕ) → AppendsPrefix old new xs → AppendsPrefix old new (xs ++ ys)
-prefix_of_more old new xs ys f = (f.0, f.1 ++ ys, ap (λ l. l ++ ys) f.2 ∙ append_assoc f.0 f.1 ys, f.3)
-
--- and after bytes that were written whole
-pub prefix_after : (old mid new : Option (List ℕ)) (xs ys : List ℕ) → Appends old mid xs → AppendsPrefix mid new ys → AppendsPrefix old new (xs ++ ys)
-prefix_after old mid new xs ys w f = (xs ++ f.0, f.1, ap (λ l. xs ++ l) f.2 ∙ sym (append_assoc xs f.0 f.1), appends_then old mid new xs f.0 w f.3)
-
-pub prefix_all : (old new : Option (List ℕ)) (xs : List ℕ) → Appends old new xs → AppendsPrefix old new xs
-prefix_all old new xs w = (xs, [], sym (append-nil xs), w)
-
-pub prefix_nothing : (o : Option (List ℕ)) (xs : List ℕ) → AppendsPrefix o o xs
-prefix_nothing o xs = ([], xs, refl, appends_nothing o)
+use Rattle.server.proofs.Bytes.{appends_kept, prefix_after, prefix_all, prefix_nothing, prefix_of_more}
+use Rattle.server.proofs.Runs.{run_then, run_on, bytes_then}
 
 pub part_nothing : (o : Option (List ℕ)) (a : State) → CanServe a → (cs : List (List ℕ)) → ServedInPart o o a cs
 part_nothing o a can cs = let r = some_run a can cs in record { answers = r.0; stop = r.1; after = r.2; run = r.3; written = prefix_nothing o (bytes_of r.0) }

@@ -3,6 +3,7 @@ use Rattle.server.proofs.Common.{◌≡◌, ◌≢◌, ℕ, List, [], ◌++◌, 
 use Rattle.std.proofs.Common.{append-nil}
 use Rattle.frames.specs.declared.fault.FrameFault.TheVariants as frame
 use Rattle.sessions.specs.declared.fault.RunFault.TheVariants.{Memory}
+use Rattle.server.proofs.Bytes.{Refuses, consumes_then, consumes_nothing, consumes_no_more, finish_faulty, reads_nothing}
 use Rattle.server.proofs.Runs.{served_then, served_nothing}
 use Rattle.server.proofs.CutSessions.{part_nothing, part_then}
 
@@ -25,22 +26,6 @@ pub record Fed (file : FileGrammar) (input_old input_new output_old output_new :
   pub was_read : Consumes input_old input_new bytes
   pub split : Splits bytes contents tail
   pub served : Served output_old output_new (first_state file) contents stop state
-
-consumes_then : (a b c : Option (List ℕ)) (xs ys : List ℕ) → Consumes a b xs → Consumes b c ys → Consumes a c (xs ++ ys)
-consumes_then None b c xs ys g h = tt
-consumes_then (Some ls) None c xs ys g h = absurd g
-consumes_then (Some ls) (Some bs) None xs ys g h = absurd h
-consumes_then (Some ls) (Some bs) (Some cs) xs ys g h = g ∙ ap (λ l. xs ++ l) h ∙ sym (append_assoc xs ys cs)
-
-pub consumes_nothing : (a : Option (List ℕ)) → Consumes a a []
-consumes_nothing None = tt
-consumes_nothing (Some ls) = refl
-
--- what is kept has nothing read of it
-reads_nothing : (a b : Option (List ℕ)) → Keeps a b → Consumes a b []
-reads_nothing None b k = tt
-reads_nothing (Some bs) None k = absurd k
-reads_nothing (Some bs) (Some cs) k = sym k
 
 pub fed : (file : FileGrammar) (ri rm rn oo om on : Option (List ℕ)) (fi fo : ℕ) (tail new : Tail) (a b : State) (stop : Option ℕ) (piece : List ℕ) (more : List (List ℕ))
     → IsReady file ri rm fi oo om fo tail a → Consumes rm rn piece → GoesOn tail piece more new → Served om on a more stop b → Fed file ri rn oo on new b stop
@@ -85,9 +70,6 @@ cut_short file Memory failures ri rn oo on tail bytes contents cut read split p 
     record { bytes = bytes; contents = contents; tail = tail; answers = p.answers; stop = p.stop; after = p.after; was_read = read; split = split; run = p.run; written = p.written; ends = tt }
 cut_short file d failures ri rn oo on tail bytes contents cut read split p = absurd cut
 
-consumes_no_more : (a b c : Option (List ℕ)) (xs : List ℕ) → Consumes a b xs → Consumes b c [] → Consumes a c xs
-consumes_no_more a b c xs g h = subst (Consumes a c) (append-nil xs) (consumes_then a b c xs [] g h)
-
 -- nothing more is read
 fed_nothing : (file : FileGrammar) (ri rm rn oo om : Option (List ℕ)) (fi fo : ℕ) (tail : Tail) (a : State)
     → IsReady file ri rm fi oo om fo tail a → Consumes rm rn [] → Fed file ri rn oo om tail a None
@@ -116,10 +98,6 @@ input_ends file d ri rm rn oo om fi fo tail a ready read at_end ends = absurd en
 pub exits : (file : FileGrammar) (ri rn oo on : Option (List ℕ)) (tail : Tail) (b : State) (status : ℕ) → Fed file ri rn oo on tail b (Some status) → Session file ri rn oo on (Ok status)
 exits file ri rn oo on tail b status f = whole file ri rn oo on tail b (Some status) f (Ok status) f.served.written (inl refl)
 
-finish_faulty : (t : Tail) (f : FrameFault) → Some f ≡ fault_of t → (finish_of t ≡ Err f) × (IsOpen t → ⊥)
-finish_faulty (Open rest) f h = absurd (let e : ⊥ = cc in e)
-finish_faulty (Faulty g) f h = let same : f ≡ g = cc in (ap (λ x. Err x) (sym same), λ o. o)
-
 -- the stream is faulty after the frames that were answered
 pub stream_fails : (file : FileGrammar) (ri rn oo on : Option (List ℕ)) (tail : Tail) (b : State) (fault : FrameFault) → Some fault ≡ fault_of tail
     → Fed file ri rn oo on tail b None → Session file ri rn oo on (Err (Frame fault))
@@ -134,10 +112,6 @@ answering_fails file e failures ri rm rn oo om on fi fo tail new a piece more cu
     cut_short file e failures ri rn oo on new (ready.bytes ++ piece) (ready.contents ++ more) cut
     (consumes_then ri rm rn ready.bytes piece ready.was_read read) (goes ready.bytes ready.contents ready.split)
     (part_then oo om on (first_state file) a ready.contents more ready.served p)
-
--- what a piece makes of the tail where it is refused for this fault
-abbrev pub Refuses : FrameFault → Tail → List ℕ → Tail → Type 0
-Refuses fault tail piece new = fault ≢ frame.Memory → GoesOn tail piece [] new × (new ≡ Faulty fault)
 
 -- a piece is refused
 pub feeding_fails : (file : FileGrammar) → AlwaysAnswers file → (fault : FrameFault) (ri rm rn oo om : Option (List ℕ)) (fi fo : ℕ) (tail new : Tail) (a : State) (piece : List ℕ)
@@ -158,10 +132,6 @@ feeding_fails file total fault ri rm rn oo om fi fo tail new a piece ready read 
     by frame.Memory r = answering_fails file Memory 0 ri rm rn oo om om fi fo tail other a piece contents refl ready read goes
         (part_nothing om a (can_serve file total ri rm oo om fi fo tail a ready) contents)
     by frame.LongHeader r = on_fault frame.LongHeader (r (λ e. cc))
-
-pub is_open : (t : Tail) → None ≡ fault_of t → IsOpen t
-is_open (Open rest) h = tt
-is_open (Faulty g) h = absurd (let e : ⊥ = cc in e)
 
 -- before the first read
 pub at_start : (file : FileGrammar) (input output : Option (List ℕ)) (input_failures output_failures : ℕ) (tail : Tail) (state : State) → input_failures ≡ 0

@@ -1,7 +1,7 @@
 -- Runs one after another.
 use Rattle.server.proofs.Common.{◌≡◌, ℕ, List, [], ◌∷◌, ◌++◌, refl, ap, sym, subst, ◌∙◌, append_assoc, Option, Some, None, MatchOption, IfSome, Appends, flat_map-append, map-append, compact_text, frame, contents, Received, received_in, Answer, reply_data, State, Step, StepOn, Run, bytes_of, Served, CanServe, run_serves, some_run}
 use Rattle.std.proofs.Common.{append-nil}
-use Rattle.frames.specs.declared.decoder.Frame.{Frame}
+use Rattle.server.proofs.Bytes.{appends_nothing, appends_then}
 
 match_map : (halt : Option ℕ) {P P' : Type 0} {Q Q' : ℕ → Type 0} → (P → P') → ((s : ℕ) → Q s → Q' s) → MatchOption halt P Q → MatchOption halt P' Q'
 match_map None f g h = f h
@@ -43,12 +43,6 @@ pub one_run : (content : List ℕ) (old : State) (answers : List Answer) (stop :
 one_run content old answers None new step = (answers, None, new, step, ([], sym (append-nil answers), (refl, refl, refl)))
 one_run content old answers (Some s) new step = (answers, Some s, new, step, (refl, refl, refl))
 
-pub appends_then : (old mid new : Option (List ℕ)) (a b : List ℕ) → Appends old mid a → Appends mid new b → Appends old new (a ++ b)
-appends_then None mid new a b g h = tt
-appends_then (Some xs) None new a b g h = absurd g
-appends_then (Some xs) (Some ys) None a b g h = absurd h
-appends_then (Some xs) (Some ys) (Some zs) a b g h = h ∙ ap (λ l. l ++ b) g ∙ append_assoc xs a b
-
 pub bytes_then : (xs ys : List Answer) → bytes_of (xs ++ ys) ≡ bytes_of xs ++ bytes_of ys
 bytes_then xs ys = flat_map-append (λ a. frame (compact_text (reply_data a))) xs ys
 
@@ -64,17 +58,5 @@ served_then old mid new a b c cs ds stop r s = record {
 pub served_stops : (old new : Option (List ℕ)) (a c : State) (cs ds : List (List ℕ)) (status : ℕ) → Served old new a cs (Some status) c → Served old new a (cs ++ ds) (Some status) c
 served_stops old new a c cs ds status r = record { answers = r.answers; run = run_stops a c cs ds r.answers status r.run; written = r.written }
 
-pub appends_nothing : (o : Option (List ℕ)) → Appends o o []
-appends_nothing None = tt
-appends_nothing (Some xs) = sym (append-nil xs)
-
 pub served_nothing : (o : Option (List ℕ)) (a : State) → Served o o a [] None a
 served_nothing o a = record { answers = []; run = (refl, refl, refl); written = appends_nothing o }
-
-pub contents_more : (done : List Frame) (d : Frame) → contents (done ++ d ∷ []) ≡ contents done ++ d.content.items ∷ []
-contents_more done d = map-append (λ (f : Frame). f.content.items) done (d ∷ [])
-
--- the contents of the frames before one, its own, and those of the others
-pub contents_all : (frames done rest : List Frame) (d : Frame) → done ++ d ∷ rest ≡ frames → (contents done ++ d.content.items ∷ []) ++ contents rest ≡ contents frames
-contents_all frames done rest d e =
-    append_assoc (contents done) (d.content.items ∷ []) (contents rest) ∙ sym (map-append (λ (f : Frame). f.content.items) done (d ∷ rest)) ∙ ap contents e

@@ -1,5 +1,6 @@
 -- What a server of the code is between two messages.
 use Rattle.std.specs.Prelude.{Bool}
+use Rattle.docs.specs.Languages.{LanguageData}
 use Rattle.sessions.specs.Steps.{State}
 use Rattle.server.specs.declared.state.Server.{Server}
 
@@ -10,3 +11,7 @@ state_view s = record { file = s.documents.language.file; phase = s.phase; docum
 -- memory was refused to a server of the code
 abbrev pub has_failed : Server → Bool
 has_failed s = s.has_failed
+
+-- the language of the documents of a server of the code
+abbrev pub language_of : Server → LanguageData
+language_of s = s.documents.language

@@ -11,7 +11,7 @@ ghost use Rattle.sessions.specs.Documents.{is_open};
 ghost use Rattle.sessions.specs.Sent.{sent};
 ghost use Rattle.sessions.specs.Steps.{OnRequest};
 ghost use Rattle.server.specs.Questions.{question_view};
-ghost use Rattle.server.specs.States.{state_view};
+ghost use Rattle.server.specs.States.{language_of, state_view};
 
 use crate::answers::answer;
 use crate::entry::Entry;
@@ -25,15 +25,15 @@ use std::alloc::{AllocError, Global};
 
 impl Server {
     /// The document of this URI, or the refusal of what is asked about it where it isn't open.
-    fn document(&self, uri: &str) -> Result<&Doc, Refusal>
-        ensures open { let held = self.now.documents in
-            IfOk result (λ doc. IsCurrent held.language doc.now
-            × (get held.documents uri.now ≡ Some (is_open (open_document doc.now)))) }
-        ensures refusal { let held = self.now.documents in
-            let document = get held.documents uri.now in
+    pub fn document(&self, uri: &str) -> Result<&Doc, Refusal>
+        ensures open { let held = (state_view self.now).documents in
+            IfOk result (λ doc. IsCurrent (language_of self.now) doc.now
+            × (get held uri.now ≡ Some (is_open (open_document doc.now)))) }
+        ensures refusal { let state = state_view self.now in
+            let document = get state.documents uri.now in
             IfErr result (λ refusal. (id : Ident) → let answer = error_reply (Some id) refusal in
-            ((question : Asking) → IsAnswer (held.language.file) id document question answer)
-            × IsCount (held.language.file) id document answer) }
+            ((question : Asking) → IsAnswer state.file id document question answer)
+            × IsCount state.file id document answer) }
     {
         match self.documents.get(uri) {
             Some(Entry::Open(doc)) => Ok(doc),

@@ -4,9 +4,11 @@ ghost use Rattle.std.specs.Prelude.{◌≡◌, ◌↔◌, ℕ, List, All, IsErrO
 ghost use Rattle.rpc.specs.Messages.{Received};
 ghost use Rattle.rpc.specs.Reading.{Receives};
 ghost use Rattle.rpc.specs.Texts.{IsSpelled, texts_of};
-ghost use Rattle.sessions.specs.Alone.{EachDocumentIsAlone, EachRunHasAHistory, HistoriesDecide};
+ghost use Rattle.sessions.specs.Alone.{EachDocumentIsAlone, EachRunHasAHistory, HistoriesDecide, OthersCanBeLeftOut};
 ghost use Rattle.sessions.specs.Fresh.{EveryAnswerIsFresh, EachTextIsItsEdits};
+ghost use Rattle.sessions.specs.Replies.{EachRequestIsAnswered, NoNotificationIsAnswered, NothingIsSentAfterExit};
 ghost use Rattle.sessions.specs.Sessions.{Session};
+ghost use Rattle.sessions.specs.Sizes.{TooLargeIsExact};
 
 use crate::state::Server;
 use crate::stream::serve;
@@ -15,7 +17,10 @@ use docs::laws::always_answers;
 use frames::{Input, Output};
 use rpc::each_text_is_unicode;
 use sessions::RunFault;
-use sessions::laws::{each_document_is_alone, each_text_is_its_edits, every_answer_is_fresh};
+use sessions::laws::{
+    each_document_is_alone, each_request_is_answered, each_text_is_its_edits,
+    every_answer_is_fresh, too_large_is_exact,
+};
 use std::alloc::Global;
 
 /// A session from its first byte to `exit`, to the end of the input, or to a fault.
@@ -36,13 +41,21 @@ pub fn run<R: Input, W: Output>(
     ensures fresh { EveryAnswerIsFresh language.file }
     // The text of an open document is its edits, applied in turn.
     ensures edits { EachTextIsItsEdits }
-    // What is received is in UTF-8, so that a document is lost as too large exactly where its text has too many bytes.
+    // What is received is in UTF-8.
     ensures unicode { (content : List ℕ) (received : Received) → Receives content received →
         All IsSpelled (texts_of received) }
+    // A document is lost as too large exactly where its text has too many bytes.
+    ensures too_large { TooLargeIsExact language.file }
     // What a run sends about a document is a function of what it receives about it, and no other message changes the document.
     ensures alone { EachDocumentIsAlone language.file }
     ensures histories { EachRunHasAHistory }
     ensures by_history { HistoriesDecide language.file }
+    // Messages about other documents, or about none, can be left out, but for those of the phase.
+    ensures left_out { OthersCanBeLeftOut language.file }
+    // In each run a request gets one reply, with its id and in order, a notification none, and nothing is sent after `exit`.
+    ensures replies { EachRequestIsAnswered }
+    ensures notifications { NoNotificationIsAnswered }
+    ensures exit { NothingIsSentAfterExit }
     // A device fault is answered exactly where the device failed.
     ensures read { IsErrOf result RunFault.Read ↔ R.failures input.new ≡ 1 }
     ensures write { IsErrOf result RunFault.Write ↔ W.failures output.new ≡ 1 }
@@ -51,7 +64,9 @@ pub fn run<R: Input, W: Output>(
     every_answer_is_fresh();
     each_text_is_its_edits();
     each_document_is_alone();
+    each_request_is_answered();
     each_text_is_unicode();
+    too_large_is_exact();
     let mut server = Server::new(alloc, language);
     serve(alloc, &mut server, input, output)
 }

@@ -4,7 +4,7 @@ ghost use Rattle.std.specs.Prelude.{◌≡◌, true, false, IfOk, OnOk, OnErr, I
 ghost use Rattle.rpc.specs.Messages.{received_of};
 ghost use Rattle.sessions.specs.Sent.{sent};
 ghost use Rattle.sessions.specs.Steps.{first_state, unknown_in, params_in, StepOn};
-ghost use Rattle.server.specs.States.{has_failed, state_view};
+ghost use Rattle.server.specs.States.{has_failed, language_of, state_view};
 
 use crate::documents::Documents;
 use crate::out::{nothing, one_error};
@@ -52,6 +52,21 @@ impl Server {
             documents: Documents::new(alloc, language),
             has_failed: false,
         }
+    }
+
+    /// Where the session stands (LSP 3.17, "Server lifecycle").
+    pub fn phase(&self) -> Phase
+        ensures { result ≡ (state_view self.now).phase }
+    {
+        self.phase
+    }
+
+    /// The language of the documents.
+    pub fn language(&self) -> &Language
+        ensures is { result.now ≡ language_of self.now }
+        ensures file { (state_view self.now).file ≡ (language_of self.now).file }
+    {
+        self.documents.language()
     }
 
     /// The step on a message.

@@ -1,7 +1,7 @@
 use Rattle.server.proofs.Common.{◌≡◌, ◌+◌, ◌<◌, ℕ, ◌++◌, List, [], ◌∷◌, map, length, get_or, take, drop, subst, sym, ap, ◌∙◌, Reply, Appends, take_more, map-append, take-append-drop, frame, compact_text, reply_view, reply_data, bytes_of, AppendsPrefix}
 use Rattle.std.proofs.Common.{append-nil}
-use Rattle.server.proofs.Runs.{appends_then, bytes_then}
-use Rattle.server.proofs.CutSessions.{on_err, prefix_all, prefix_of_more, prefix_after}
+use Rattle.server.proofs.Bytes.{appends_then, on_err, prefix_all, prefix_of_more, prefix_after}
+use Rattle.server.proofs.Runs.{bytes_then}
 use Rattle.server.proofs.stream.write_replies.Goals as goal
 
 -- the bytes of all answers, in two parts
