@@ -2,7 +2,7 @@
 //! and output.
 //!
 //! It is no library: `main` reads the words of the command line and the files that they name,
-//! writes what `commands` returns, and calls `server::run` on the standard streams. What can be
+//! writes what `commands` returns, and calls `serving::serve` on the standard streams. What can be
 //! proved stands in the crates below; here it is proved that the program is safe and ends.
 //!
 //! `lrls check GRAMMAR` prints the names that no derivation from the start uses, and `ok`;
@@ -15,8 +15,8 @@
 
 use commands::{Fault, Printed, Words, check, load, parse, words};
 use frames::{ReadInput, WriteOutput};
-use server::{Language, run};
-use std::alloc::Global;
+use server::Language;
+use serving::{Served, serve};
 use std::io::{ErrorKind, Write};
 use std::process::ExitCode;
 
@@ -61,36 +61,30 @@ fn parse_file(rt: &HostRuntime, language: &Language, path: &str) -> Result<u8, F
     print(rt, &parse(rt.alloc(), language, &bytes)?)
 }
 
-/// Serves an editor until it leaves.
-fn serve(rt: &HostRuntime, alloc: Global, language: Language) -> Result<u8, Fault> {
+/// Serves an editor until it leaves, by the grammar in the file of this path, or prints why it
+/// gives no language.
+fn serve_file(rt: &HostRuntime, path: &str) -> Result<u8, Fault> {
+    let bytes = bytes_of(rt, path)?;
     let mut input = ReadInput::new(rt.stdin());
     let mut output = WriteOutput::new(rt.stdout());
-    run(alloc, language, &mut input, &mut output).map_err(Fault::from)
-}
-
-/// The path of the grammar's file.
-fn grammar_of(asked: &Words) -> &str {
-    match asked {
-        Words::Check(grammar) | Words::Parse(grammar, _) | Words::Serve(grammar) =>
-            grammar.as_str(),
-    }
-}
-
-/// Does what is asked by the language of its grammar.
-fn perform_in(rt: &HostRuntime, asked: &Words, language: Language) -> Result<u8, Fault> {
-    match asked {
-        Words::Check(_) => print(rt, &check(rt.alloc(), &language)?),
-        Words::Parse(_, text) => parse_file(rt, &language, text.as_str()),
-        Words::Serve(_) => serve(rt, rt.alloc(), language),
+    match serve(rt.alloc(), &bytes, &mut input, &mut output)? {
+        Served::Ended(outcome) => outcome.map_err(Fault::from),
+        Served::Refused(printed) => print(rt, &printed),
     }
 }
 
 /// Does what is asked, or prints why its grammar gives no language. No other file is read before
 /// the grammar's.
 fn perform(rt: &HostRuntime, asked: &Words) -> Result<u8, Fault> {
-    match load_language(rt, grammar_of(asked))? {
-        Ok(language) => perform_in(rt, asked, language),
-        Err(printed) => print(rt, &printed),
+    let (grammar, text) = match asked {
+        Words::Check(grammar) => (grammar, None),
+        Words::Parse(grammar, text) => (grammar, Some(text)),
+        Words::Serve(grammar) => return serve_file(rt, grammar.as_str()),
+    };
+    match (load_language(rt, grammar.as_str())?, text) {
+        (Ok(language), Some(text)) => parse_file(rt, &language, text.as_str()),
+        (Ok(language), None) => print(rt, &check(rt.alloc(), &language)?),
+        (Err(printed), _) => print(rt, &printed),
     }
 }
 

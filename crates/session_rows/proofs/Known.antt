@@ -8,9 +8,9 @@ use Rattle.sessions.specs.declared.fault.RunFault.TheVariants.{Frame, Read, Writ
 use Rattle.readings.specs.Grammars.{FileGrammar}
 use Rattle.rpc.specs.Replies.{Answer}
 use Rattle.sessions.specs.Runs.{Run, bytes_of}
-use Rattle.sessions.specs.Sessions.{Session, IsWritten, Ends}
+use Rattle.sessions.specs.Sessions.{AppendsPrefix, Session, IsWritten, Ends}
 use Rattle.sessions.specs.Steps.{State, first_state}
-use Rattle.session_rows.specs.Known.{ComesTo}
+use Rattle.session_rows.specs.Known.{ComesTo, WroteInPart}
 
 -- each stream is whole frames and a tail in one way, and goes on
 pub record Streams : Type 0 where
@@ -67,6 +67,12 @@ module _ (s : Streams) (file : FileGrammar) (bytes left written : List ℕ) (cs 
       let on = stays (first_state file) part more.0 answers status after (subst (λ o. Run (first_state file) part answers o after) some run) in
       (answers, Some status, after, subst (λ ds. Run (first_state file) ds answers (Some status) after) more.1 on, is, inl refl)
 
+  wrote_in_part : (part : List (List ℕ)) (t : Tail) (answers : List Answer) (stop : Option ℕ) (after : State) → Splits bytes part t
+      → Run (first_state file) part answers stop after → AppendsPrefix (Some []) (Some written) (bytes_of answers) → WroteInPart file cs written
+  wrote_in_part part t answers stop after split run (prefix, rest, joined, is) =
+      let more = goes_on s bytes left cs tail whole part t split in
+      (part, more.0, answers, stop, after, rest, more.1, run, joined ∙ ap (λ p. p ++ rest) (sym is))
+
   comes : (outcome : Result ℕ RunFault) (part : List (List ℕ)) (t : Tail) (answers : List Answer) (stop : Option ℕ) (after : State) → Splits bytes part t
       → Run (first_state file) part answers stop after → IsWritten outcome (Some []) (Some written) (bytes_of answers) → Ends outcome (Some left) t stop
       → ComesTo file cs tail written outcome
@@ -77,9 +83,10 @@ module _ (s : Streams) (file : FileGrammar) (bytes left written : List ℕ) (cs 
       fails_so part (Open rest) answers stop after fault run is (is_whole s bytes left cs tail whole part (Open rest) split (end tt)) none finish
   comes (Err (Frame fault)) part (Faulty f) answers stop after split run is (none, finish, end) =
       fails_so part (Faulty f) answers stop after fault run is (fault_is s bytes left cs tail whole part (Faulty f) split f refl) none finish
-  comes (Err Read) part t answers stop after split run is e = tt
-  comes (Err Write) part t answers stop after split run is e = tt
-  comes (Err Memory) part t answers stop after split run is e = tt
+  comes (Err Read) part t answers stop after split run is (none, ongoing) =
+      let more = goes_on s bytes left cs tail whole part t split in (part, more.0, more.1, (answers, stop, after, run, is, none))
+  comes (Err Write) part t answers stop after split run is e = wrote_in_part part t answers stop after split run is
+  comes (Err Memory) part t answers stop after split run is e = wrote_in_part part t answers stop after split run is
 
 -- a session over these bytes, all of them known, from nothing written
 pub comes_to : Streams → (file : FileGrammar) (bytes written : List ℕ) (input_old input_new output_old output_new : Option (List ℕ)) (outcome : Result ℕ RunFault)

@@ -43,7 +43,7 @@ use Rattle.sessions.specs.Documents.{DocumentState, is_open, is_lost, Held, Beco
 use Rattle.sessions.specs.Runs.{Run, bytes_of}
 use Rattle.sessions.specs.Steps.{State, Step, first_state, new_document, Opens, Holds, Changes}
 use Rattle.sessions.specs.declared.phase.Phase.TheVariants.{Ready, Down}
-use Rattle.session_rows.specs.Contents.{uri, of, initializes, opens, types, asks, shuts_down, exits, both_changes}
+use Rattle.session_rows.specs.Contents.{uri, of, initializes, opens, types, asks, shuts_down, exits, both_changes, session_bytes}
 use Rattle.session_rows.specs.Known.{ComesTo, CameEither}
 use Rattle.session_rows.specs.Written.{typed, typed_and_lost}
 use Rattle.session_rows.proofs.FewBytes.{Known, next, last}
@@ -252,11 +252,6 @@ module _ (file : FileGrammar)
 
 abbrev all_contents : List (List ℕ)
 all_contents = initializes ∷ opens ∷ types ∷ asks ∷ shuts_down ∷ exits ∷ []
-
-abbrev pub session_bytes : List ℕ
-session_bytes =
-    codes "Content-Length: 58\r\n\r\n" ++ initializes ++ codes "Content-Length: 128\r\n\r\n" ++ opens ++ codes "Content-Length: 296\r\n\r\n" ++ types
-    ++ codes "Content-Length: 83\r\n\r\n" ++ asks ++ codes "Content-Length: 44\r\n\r\n" ++ shuts_down ++ codes "Content-Length: 33\r\n\r\n" ++ exits
 
 splits : Splits session_bytes all_contents (Open [])
 splits = (

@@ -1,11 +1,12 @@
 -- What follows from the clauses of `run` for the contents of worked sessions.
-use Rattle.std.specs.Prelude.{◌≡◌, ◌≢◌, ◌⊎◌, ℕ, ℤ, pos, Bool, true, false, ◌||◌, nat_lt, List, [], ◌∷◌, ◌++◌, codes, All, Option, Some, None, refl}
+use Rattle.std.specs.Prelude.{◌≡◌, ◌≢◌, ◌⊎◌, ℕ, ℤ, pos, Bool, true, false, ◌||◌, if◌then◌else◌, nat_lt, List, [], ◌∷◌, ◌++◌, map, codes, All, Option, Some, None, refl}
 use Rattle.std.proofs.Common.{arith, ap, sym, subst, ◌∙◌, inl, inr, ⊎_elim}
 use Rattle.std.specs.Char.{encode_utf8}
 use Rattle.std.specs.FinMap.{empty, get, insert, len, contains_key, get-insert, len-empty}
-use Rattle.std.specs.Str.{chars}
+use Rattle.std.specs.Str.{chars, is_utf8}
 use Rattle.std.proofs.lemmas.Cmp.{nat_list_cmp_total}
-use Rattle.std.proofs.lemmas.List.Elements.{All-head, All-tail}
+use Rattle.std.proofs.lemmas.List.Elements.{All-from_recursion, All-head, All-tail}
+use Rattle.serde_json.proofs.OnLiterals.{serde_json_on_literals}
 use Rattle.rpc.specs.Texts.{IsSpelled}
 use Rattle.definitions.specs.Text.{changed, offset, line_start, line_from, break_ends, units, greatest}
 use Rattle.readings.specs.Grammars.{FileGrammar}
@@ -15,15 +16,31 @@ use Rattle.rpc.specs.Reading.{received_in}
 use Rattle.rpc.specs.Replies.{Answer, capabilities_reply}
 use Rattle.rpc.specs.Unit.{Unit as Encoding}
 use Rattle.rpc.specs.Unit.TheVariants.{Utf16}
-use Rattle.sessions.specs.Alone.{Event, History, SendTheSame, event_in, loses, named, loses_memory}
+use Rattle.sessions.specs.Alone.{Event, History, SendTheSame, concerning, event_in, loses, named, loses_memory}
 use Rattle.sessions.specs.Documents.{DocumentState, is_open, is_lost, Held, edited, has_room}
+use Rattle.sessions.specs.Replies.{all_due, before_exit, has_exit}
 use Rattle.sessions.specs.Runs.{Run}
-use Rattle.sessions.specs.Steps.{State, Step, first_state, new_document, Opens, Holds, Changes, OnRequest, OnNotification}
+use Rattle.sessions.specs.Steps.{State, Step, exit_status, first_state, new_document, Opens, Holds, Changes, OnRequest, OnNotification}
 use Rattle.sessions.specs.declared.phase.Phase.{Phase}
 use Rattle.sessions.specs.declared.phase.Phase.TheVariants.{New, Ready, Down}
 use Rattle.session_rows.specs.Contents.{uri, other_uri, of, initializes, opens, opens_other, types, asks, both_changes}
-use Rattle.session_rows.specs.Uses.{Promises, first_mix, second_mix, MixedAlike, LeavesTheOther, RepliesAlike, EndsAsFresh, OpensUnicode}
+use Rattle.session_rows.specs.Uses.{Promises, first_mix, second_mix, without_other, until_exit, MixedAlike, LeftOutAlike, LeavesTheOther, RepliesAlike, RepliesInOrder, OpensSilently, OpensSmall, EndsAsFresh, OpensUnicode}
 use Rattle.session_rows.proofs.Received.{initializes_is, opens_is, opens_other_is, types_is, asks_is}
+
+-- ---- contents
+
+-- what concerns the one document
+concerning_is : concerning uri first_mix ≡ without_other
+unfolding chars encode_utf8 is_utf8 serde_json_on_literals
+concerning_is = refl
+
+due_is : all_due (before_exit until_exit) ≡ Some (of 1) ∷ Some (of 2) ∷ []
+unfolding chars encode_utf8 is_utf8 serde_json_on_literals
+due_is = refl
+
+ends_is : has_exit until_exit ≡ true
+unfolding chars encode_utf8 is_utf8 serde_json_on_literals
+ends_is = refl
 
 -- ---- steps
 
@@ -220,6 +237,23 @@ module _ (file : FileGrammar) where
         a.6 ∙ ap (λ l. a.0 ∷ l) (c.8 ∙ (ap (λ l. l ++ c.4) r.1 ∙ ap (λ l. r.0 ∷ l) end.2)),
       )
 
+  third_of : (answers : List Answer) (stop : Option ℕ) (new : State) (events : List Event) (sent : List Answer)
+      → History uri (first_state file) without_other answers stop new events sent
+      → (published reply : Answer) × (answers ≡ capabilities_reply (of 1) Utf16 ∷ published ∷ reply ∷ [])
+      × (events ≡ opened_event ∷ asked_event ∷ []) × (sent ≡ published ∷ reply ∷ [])
+  third_of answers stop new events sent history =
+      let a = begun (asks ∷ []) answers stop new events sent history in
+      let s = ready file (held file) in
+      let c = noted s asks [] asking asks_is a.1 stop new (λ first halt mid x. (replied s Utf16 refl first halt mid x).2) a.2 a.3 refl a.7 in
+      let r = replied s Utf16 refl c.0 None c.1 c.5 in
+      let end = c.9 in (
+        a.0,
+        r.0,
+        a.4 ∙ ap (λ l. capabilities_reply (of 1) Utf16 ∷ a.0 ∷ l) (c.6 ∙ (ap (λ l. l ++ c.2) r.1 ∙ ap (λ l. r.0 ∷ l) end.0.0)),
+        a.5 ∙ ap (λ l. opened_event ∷ l) (c.7 ∙ (ap (λ e. e ∷ c.3) (asked_so s c.1 refl r.3) ∙ ap (λ l. asked_event ∷ l) end.1)),
+        a.6 ∙ ap (λ l. a.0 ∷ l) (c.8 ∙ (ap (λ l. l ++ c.4) r.1 ∙ ap (λ l. r.0 ∷ l) end.2)),
+      )
+
   -- the change leaves the server running, in the same phase
   changed_so : (first : List Answer) (halt : Option ℕ) (mid : State) → Step (ready file (held file)) changing first halt mid
       → (halt ≡ None) × (mid.phase ≡ Ready Utf16)
@@ -249,6 +283,49 @@ module _ (file : FileGrammar) where
           b.3,
           subst (λ l. SendTheSame l (b.0 ∷ b.1 ∷ [])) a.5 (subst (λ l. SendTheSame h.1 l) b.5 same),
         )
+
+    pub left_out_alike : LeftOutAlike file
+    left_out_alike answers others stop other_stop new other run other_run =
+        let h = promises.histories uri (first_state file) first_mix answers stop new run in
+        let k = promises.histories uri (first_state file) without_other others other_stop other other_run in
+        let a = first_of answers stop new h.0 h.1 h.2 in
+        let b = third_of others other_stop other k.0 k.1 k.2 in
+        let same = promises.left_out uri first_mix answers others stop other_stop new other h.0 k.0 h.1 k.1 h.2
+        (subst (λ cs. History uri (first_state file) cs others other_stop other k.0 k.1) (sym concerning_is) k.2)
+        (subst (λ (es : List Event). All (λ (e : Event). e.room ≡ true) es) (sym a.4)
+        (All-from_recursion (λ (e : Event). e.room ≡ true) (opened_event ∷ asked_event ∷ []) (room empty (len-empty _ _), (refl, tt))))
+        (ap (map (λ (e : Event). e.refused)) (b.3 ∙ sym a.4)) in (
+          a.0,
+          a.1,
+          b.0,
+          b.1,
+          a.2,
+          a.3,
+          b.2,
+          subst (λ l. SendTheSame l (b.0 ∷ b.1 ∷ [])) a.5 (subst (λ l. SendTheSame h.1 l) b.4 same.0),
+          same.1,
+        )
+
+    pub replies_in_order : RepliesInOrder file
+    replies_in_order answers stop new run = (
+      promises.replies (first_state file) until_exit answers stop new run ∙ due_is,
+      (promises.exit (first_state file) until_exit answers stop new run).1 ∙ ap (λ b. if b then Some (exit_status new.phase) else None) ends_is,
+    )
+
+    pub opens_silently : OpensSilently
+    opens_silently old new answers stop step = promises.notifications old (open_text uri (pos 1) []) answers stop new (subst (λ r. Step old r answers stop new) opens_is step)
+
+    pub opens_small : OpensSmall file
+    opens_small answers stop new run lost =
+        let a = goes_by (first_state file) initializes (opens ∷ []) _ initializes_is answers stop new (λ first halt mid s. s.1) run in
+        let phase : a.1.phase ≡ Ready Utf16 = ap (λ (m : State). m.phase) a.3.2 in
+        let b = goes_by a.1 opens [] opening opens_is a.2 stop new (λ first halt mid s. (goes_on a.1 Utf16 phase uri [] (pos 1) first halt mid s).0) a.5 in
+        let begun : Run (first_state file) (initializes ∷ []) (a.0 ++ []) None a.1 =
+        (a.0, None, a.1, subst (λ r. Step (first_state file) r a.0 None a.1) (sym initializes_is) a.3, ([], refl, (refl, refl, refl))) in
+        let exact = (promises.too_large (initializes ∷ []) (a.0 ++ []) a.1 Utf16 opens uri (pos 1) b.0 None b.1 begun phase
+        (subst (λ r. Step a.1 r b.0 None b.1) (sym opens_is) b.3)).0 [] opens_is (ap (λ (m : State). has_room uri m.documents) a.3.2 ∙ room empty (len-empty _ _)) in
+        let many = exact.0 (sym (ap (λ (m : State). get m.documents uri) b.5.2) ∙ lost) in
+        absurd (omega (arith, many))
 
     pub leaves_the_other : LeavesTheOther file
     leaves_the_other old new answers stop is step =

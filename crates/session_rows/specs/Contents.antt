@@ -57,3 +57,13 @@ both_changes =
       text = [];
     }
     ∷ []
+
+-- the bytes of the session in which a text is typed: its contents, each in a frame
+abbrev pub session_bytes : List ℕ
+session_bytes =
+    codes "Content-Length: 58\r\n\r\n" ++ initializes
+    ++ codes "Content-Length: 128\r\n\r\n" ++ opens
+    ++ codes "Content-Length: 296\r\n\r\n" ++ types
+    ++ codes "Content-Length: 83\r\n\r\n" ++ asks
+    ++ codes "Content-Length: 44\r\n\r\n" ++ shuts_down
+    ++ codes "Content-Length: 33\r\n\r\n" ++ exits

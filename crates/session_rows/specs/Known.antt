@@ -1,5 +1,5 @@
 -- What a session comes to whose bytes are all known.
-use Rattle.std.specs.Prelude.{◌≡◌, ℕ, ◌⊎◌, List, Option, Some, None, Result, Ok, Err}
+use Rattle.std.specs.Prelude.{◌≡◌, ℕ, ◌⊎◌, List, ◌++◌, Option, Some, None, Result, Ok, Err}
 use Rattle.frames.specs.Frames.{Tail, finish_of}
 use Rattle.sessions.specs.declared.fault.RunFault.{RunFault}
 use Rattle.sessions.specs.declared.fault.RunFault.TheVariants.{Frame, Read, Write, Memory}
@@ -15,16 +15,24 @@ Wrote file contents written Stops =
     (answers : List Answer) × (stop : Option ℕ) × (after : State)
     × Run (first_state file) contents answers stop after × (written ≡ bytes_of answers) × Stops stop
 
+-- there is a run over some of the contents, from the first on, and a prefix of the bytes of its answers was written
+abbrev pub WroteInPart : FileGrammar → List (List ℕ) → List ℕ → Type 0
+WroteInPart file contents written =
+    (part more : List (List ℕ)) × (answers : List Answer) × (stop : Option ℕ) × (after : State) × (rest : List ℕ)
+    × (part ++ more ≡ contents) × Run (first_state file) part answers stop after × (bytes_of answers ≡ written ++ rest)
+
 -- `ComesTo file contents tail written outcome`: what a session comes to over a stream of frames with these contents, and this tail: it
--- ends by `exit`; or at the end of the stream, with status 1; or by the tail's fault; or a device gave out, or memory was refused
+-- ends by `exit`; or at the end of the stream, with status 1; or by the tail's fault; or the input gave out after some of the contents, all
+-- answers to which were written; or the output gave out, or memory was refused (`WroteInPart`)
 abbrev pub ComesTo : FileGrammar → List (List ℕ) → Tail → List ℕ → Result ℕ RunFault → Type 0
 ComesTo file contents tail written (Ok status) =
     Wrote file contents written (λ stop. (stop ≡ Some status) ⊎ ((stop ≡ None) × (finish_of tail ≡ Ok tt) × (status ≡ 1)))
 ComesTo file contents tail written (Err (Frame fault)) =
     Wrote file contents written (λ stop. (stop ≡ None) × (finish_of tail ≡ Err fault))
-ComesTo file contents tail written (Err Read) = Unit {0}
-ComesTo file contents tail written (Err Write) = Unit {0}
-ComesTo file contents tail written (Err Memory) = Unit {0}
+ComesTo file contents tail written (Err Read) =
+    (part more : List (List ℕ)) × (part ++ more ≡ contents) × Wrote file part written (λ stop. stop ≡ None)
+ComesTo file contents tail written (Err Write) = WroteInPart file contents written
+ComesTo file contents tail written (Err Memory) = WroteInPart file contents written
 
 -- `GaveOut outcome`: a device gave out, or memory was refused
 abbrev pub GaveOut : Result ℕ RunFault → Type 0

@@ -1,12 +1,12 @@
 //! A session over bytes that lie in memory.
 
-ghost use Rattle.std.specs.Prelude.{ℕ, List, Some, if◌then◌else◌};
+ghost use Rattle.std.specs.Prelude.{◌≡◌, ℕ, List, Some, if◌then◌else◌};
 ghost use Rattle.frames.specs.Frames.{Tail, Splits};
 ghost use Rattle.session_rows.specs.Known.{ComesTo};
 ghost use Rattle.session_rows.specs.Uses.{Promises};
 
 use docs::Language;
-use frames::{DeviceFault, Output, ReadInput, one_split, streams_go_on};
+use frames::{DeviceFault, Input, Output, ReadInput, one_split, streams_go_on};
 use server::{RunFault, run};
 use std::alloc::Global;
 
@@ -44,22 +44,33 @@ pub struct Ran {
     pub written: Vec<u8>,
 }
 
+/// Runs a session over an input that has these bytes, in whatever pieces they come.
+pub fn over_input<R: Input>(alloc: Global, language: Language, input: &mut R) -> Ran
+    requires { R.failures input.old ≡ 0 }
+    ensures session { (bytes : List ℕ) → R.remaining input.old ≡ Some bytes →
+        (contents : List (List ℕ)) (tail : Tail) → Splits bytes contents tail →
+        ComesTo language.file contents tail result.written.items result.result }
+    ensures promises { Promises language.file }
+{
+    one_split();
+    streams_go_on();
+    let mut output = Page {
+        bytes: Vec::new(alloc),
+        has_failed: false,
+    };
+    let result = run(alloc, language, input, &mut output);
+    Ran {
+        result,
+        written: output.bytes,
+    }
+}
+
 /// Runs a session over these bytes, after which the input ends.
 pub fn over(alloc: Global, language: Language, bytes: &[u8]) -> Ran
     ensures session { (contents : List (List ℕ)) (tail : Tail) → Splits bytes.now contents tail →
         ComesTo language.file contents tail result.written.items result.result }
     ensures promises { Promises language.file }
 {
-    one_split();
-    streams_go_on();
     let mut input = ReadInput::new(bytes);
-    let mut output = Page {
-        bytes: Vec::new(alloc),
-        has_failed: false,
-    };
-    let result = run(alloc, language, &mut input, &mut output);
-    Ran {
-        result,
-        written: output.bytes,
-    }
+    over_input(alloc, language, &mut input)
 }

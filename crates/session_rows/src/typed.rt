@@ -1,16 +1,18 @@
 //! A session in which a text is typed.
 
-ghost use Rattle.std.specs.Prelude.{Ok, IfOk, codes};
+ghost use Rattle.std.specs.Prelude.{◌≡◌, Ok, IfOk, Some, codes};
 ghost use Rattle.definitions.specs.Patterns.{Matches};
 ghost use Rattle.definitions.specs.Spelling.{Spells};
+ghost use Rattle.session_rows.specs.Contents.{session_bytes};
 ghost use Rattle.session_rows.specs.Known.{CameEither};
 ghost use Rattle.session_rows.specs.Parts.{IsAtLeastOnce};
 ghost use Rattle.session_rows.specs.Written.{typed, typed_and_lost};
 
-use crate::memory::{Ran, over};
+use crate::memory::{Ran, over_input};
 use definitions::laws::expected_unique;
 use definitions::{Expression, Interval};
 use docs::{Language, LoadFault};
+use frames::{Input, ReadInput};
 use patterns::one_text_has_one_meaning;
 use std::alloc::{AllocError, Global};
 use worked::SUMS;
@@ -65,9 +67,11 @@ fn digits(alloc: Global) -> Result<Expression, AllocError>
     at_least_once(alloc, class)
 }
 
-/// Runs it over sums: the fault of the empty text is published, and then none; or, where memory is
-/// refused in the change, that the document is lost.
-pub fn typing(alloc: Global) -> Result<Ran, LoadFault>
+/// Runs it over sums, from an input in whatever pieces: the fault of the empty text is published,
+/// and then none; or, where memory is refused in the change, that the document is lost.
+pub fn typed_in<R: Input>(alloc: Global, input: &mut R) -> Result<Ran, LoadFault>
+    requires works { R.failures input.old ≡ 0 }
+    requires bytes { R.remaining input.old ≡ Some session_bytes }
     ensures { IfOk result (λ ran.
         CameEither (Ok 0) typed typed_and_lost ran.result ran.written.items) }
 {
@@ -75,6 +79,15 @@ pub fn typing(alloc: Global) -> Result<Ran, LoadFault>
     one_text_has_one_meaning();
     let language = Language::load(alloc, SUMS)?;
     let _number = digits(alloc)?;
+    Ok(over_input(alloc, language, input))
+}
+
+/// Runs it over sums, as `typed_in`, from bytes in memory.
+pub fn typing(alloc: Global) -> Result<Ran, LoadFault>
+    ensures { IfOk result (λ ran.
+        CameEither (Ok 0) typed typed_and_lost ran.result ran.written.items) }
+{
     let bytes = TYPING.concat(alloc)?;
-    Ok(over(alloc, language, bytes.as_bytes()))
+    let mut input = ReadInput::new(bytes.as_bytes());
+    typed_in(alloc, &mut input)
 }

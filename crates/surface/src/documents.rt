@@ -27,6 +27,7 @@ use grammar::{Grammar, GrammarFault};
 use std::alloc::{AllocError, Global};
 use std::rc::Rc;
 use tables::Conflict;
+use trees::Store;
 
 /// `docs::Row`.
 pub fn sent_row(row: docs::Row) -> (Rc<String>, Range) {
@@ -124,6 +125,13 @@ pub fn text(doc: &Doc, alloc: Global) -> Result<String, AllocError>
     ensures { IfOk result (λ text. string_bytes text ≡ encode_utf8_all doc.now.text) }
 {
     doc.text(alloc)
+}
+
+/// `Doc::nodes`.
+pub fn nodes(doc: &Doc) -> &Store
+    ensures { result.now ≡ doc.now.store }
+{
+    doc.nodes()
 }
 
 /// `Doc::stats`.

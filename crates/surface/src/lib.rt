@@ -1,5 +1,5 @@
 //! What callers rely on of documents and sessions: `views`, `docs`, `frames`, `rpc`, `replies`,
-//! `sessions`, `server` and `commands`. It is written as `surface_texts` is.
+//! `sessions`, `server`, `commands` and `serving`. It is written as `surface_texts` is.
 #![tactic(auto)]
 
 mod answers;

@@ -1,8 +1,11 @@
 //! Messages and replies: `rpc` and `replies`.
 
-ghost use Rattle.std.specs.Prelude.{IfSome, ◌≡◌, IfOk, ℕ, List, All, ◌↔◌, IsTrue};
-ghost use Rattle.rpc.specs.Messages.{received_of, Received};
-ghost use Rattle.rpc.specs.Reading.{Receives};
+ghost use Rattle.std.specs.Prelude.{IfSome, ◌≡◌, IfOk, ℕ, List, All, ◌↔◌, IsTrue, Some};
+ghost use Rattle.rpc.specs.Ids.{Ident};
+ghost use Rattle.rpc.specs.Messages.{received_of, Received, Request, Notification, accepted, request, notification};
+ghost use Rattle.rpc.specs.Reading.{Receives, value_of};
+ghost use Rattle.rpc.specs.Writing.{request_data, notification_data, IdFits, RequestFits, NotificationFits};
+ghost use Rattle.serde_json.specs.Data.{Data};
 ghost use Rattle.serde_json.specs.Written.{compact_text};
 ghost use Rattle.replies.specs.Replies.{reply_data, reply_view};
 ghost use Rattle.rpc.specs.Texts.{IsSpelled, texts_of};
@@ -204,6 +207,26 @@ pub fn each_text_is_unicode()
         All IsSpelled (texts_of received) }
 {
     rpc::each_text_is_unicode();
+}
+
+/// `written_messages_are_read`.
+pub fn written_messages_are_read()
+    ensures requests { (id : Ident) (call : Request) → IdFits id → RequestFits call →
+        All IsSpelled (texts_of (accepted (request id call))) →
+        Receives (compact_text (request_data id call)) (accepted (request id call)) }
+    ensures notifications { (language : List ℕ) (note : Notification) (value : Data) →
+        notification_data language note ≡ Some value → NotificationFits note →
+        IsSpelled language → All IsSpelled (texts_of (accepted (notification note))) →
+        Receives (compact_text value) (accepted (notification note)) }
+    ensures request_values { (id : Ident) (call : Request) → IdFits id → RequestFits call →
+        (content : List ℕ) → value_of content ≡ Some (request_data id call) →
+        Receives content (accepted (request id call)) }
+    ensures notification_values { (language : List ℕ) (note : Notification) (value : Data) →
+        notification_data language note ≡ Some value → NotificationFits note →
+        (content : List ℕ) → value_of content ≡ Some value →
+        Receives content (accepted (notification note)) }
+{
+    rpc::written_messages_are_read();
 }
 
 /// `equal_refusals_are_the_same`.

@@ -7,15 +7,18 @@ ghost use Rattle.rpc.specs.Messages.{received_of, Received};
 ghost use Rattle.sessions.specs.Sent.{sent};
 ghost use Rattle.rpc.specs.Reading.{Receives};
 ghost use Rattle.rpc.specs.Texts.{IsSpelled, texts_of};
-ghost use Rattle.sessions.specs.Alone.{EachDocumentIsAlone, EachRunHasAHistory, HistoriesDecide};
+ghost use Rattle.sessions.specs.Alone.{EachDocumentIsAlone, EachRunHasAHistory, HistoriesDecide, OthersCanBeLeftOut};
 ghost use Rattle.sessions.specs.Fresh.{EveryAnswerIsFresh, EachTextIsItsEdits};
+ghost use Rattle.sessions.specs.Replies.{EachRequestIsAnswered, NoNotificationIsAnswered, NothingIsSentAfterExit};
 ghost use Rattle.sessions.specs.Sessions.{Session};
+ghost use Rattle.sessions.specs.Sizes.{TooLargeIsExact};
 ghost use Rattle.commands.specs.CommandLines.{IsRead};
 ghost use Rattle.std.specs.Str.{IsUtf8};
 ghost use Rattle.docs.specs.Languages.{IsLanguageOf};
 ghost use Rattle.commands.specs.Refusals.{IsRefused};
 ghost use Rattle.commands.specs.Reporting.{IsChecked};
 ghost use Rattle.commands.specs.Parsing.{IsParsed};
+ghost use Rattle.serving.specs.Serving.{IsServed, failed_reading, failed_writing};
 ghost use Rattle.readings.specs.Answers.{AlwaysAnswers, AnswersOnce};
 ghost use Rattle.readings.specs.Grammars.{FileGrammar};
 ghost use Rattle.readings.specs.Edits.{CountsOnce};
@@ -27,6 +30,7 @@ use docs::{Doc, Language};
 use frames::{FrameFault, Input, Output};
 use rpc::{Message, Reply, RpcFault};
 use server::{Out, RunFault, Server};
+use serving::Served;
 use std::alloc::{AllocError, Global};
 
 /// `Server::new`.
@@ -75,9 +79,14 @@ pub fn run<R: Input, W: Output>(
     ensures edits { EachTextIsItsEdits }
     ensures unicode { (content : List ℕ) (received : Received) → Receives content received →
         All IsSpelled (texts_of received) }
+    ensures too_large { TooLargeIsExact language.file }
     ensures alone { EachDocumentIsAlone language.file }
     ensures histories { EachRunHasAHistory }
     ensures by_history { HistoriesDecide language.file }
+    ensures left_out { OthersCanBeLeftOut language.file }
+    ensures replies { EachRequestIsAnswered }
+    ensures notifications { NoNotificationIsAnswered }
+    ensures exit { NothingIsSentAfterExit }
     ensures read { IsErrOf result RunFault.Read ↔ R.failures input.new ≡ 1 }
     ensures write { IsErrOf result RunFault.Write ↔ W.failures output.new ≡ 1 }
 {
@@ -163,8 +172,26 @@ pub fn each_document_is_alone()
     ensures histories { EachRunHasAHistory }
     ensures by_history { (file : FileGrammar) → AnswersOnce file → CountsOnce file
         → HistoriesDecide file }
+    ensures left_out { (file : FileGrammar) → AnswersOnce file → CountsOnce file
+        → OthersCanBeLeftOut file }
 {
     sessions::laws::each_document_is_alone();
+}
+
+/// `each_request_is_answered`.
+pub fn each_request_is_answered()
+    ensures replies { EachRequestIsAnswered }
+    ensures notifications { NoNotificationIsAnswered }
+    ensures exit { NothingIsSentAfterExit }
+{
+    sessions::laws::each_request_is_answered();
+}
+
+/// `too_large_is_exact`.
+pub fn too_large_is_exact()
+    ensures { (file : FileGrammar) → TooLargeIsExact file }
+{
+    sessions::laws::too_large_is_exact();
 }
 
 /// `equal_run_faults_are_the_same`.
@@ -179,4 +206,33 @@ pub fn equal_phases_are_the_same()
     ensures { (a b : Stage) → IsTrue (⟦<sessions::Phase as PartialEq>⟧.eq a b) ↔ (a ≡ b) }
 {
     sessions::laws::equal_phases_are_the_same();
+}
+
+/// `Served`.
+pub fn served(served: Served) -> Result<Result<u8, RunFault>, Printed> {
+    match served {
+        Served::Ended(outcome) => Ok(outcome),
+        Served::Refused(printed) => Err(printed),
+    }
+}
+
+/// `serving::serve`.
+pub fn serve<R: Input, W: Output>(
+    alloc: Global,
+    grammar: &[u8],
+    input: &mut R,
+    output: &mut W,
+) -> Result<Served, AllocError>
+    requires input { R.failures input.old ≡ 0 }
+    requires output { W.failures output.old ≡ 0 }
+    ensures served { let old = W.contents output.old in
+        let new = W.contents output.new in
+        IfOk result
+        (IsServed grammar.now (R.remaining input.old) (R.remaining input.new) old new) }
+    ensures nothing { OnErr result ((R.remaining input.new ≡ R.remaining input.old)
+        × (W.contents output.new ≡ W.contents output.old)) }
+    ensures read { IfOk result (λ s. failed_reading s ↔ (R.failures input.new ≡ 1)) }
+    ensures write { IfOk result (λ s. failed_writing s ↔ (W.failures output.new ≡ 1)) }
+{
+    serving::serve(alloc, grammar, input, output)
 }

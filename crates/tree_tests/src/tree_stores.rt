@@ -272,9 +272,9 @@ fn check_tokens(rt: &impl Abort, store: &Store) {
     }
 }
 
-/// Passes whichever allocation fails.
+/// That a refused branch leaves the store as it was is proved (`Store::branch`).
 #[test]
-fn a_refused_branch_leaves_the_store(rt: HostRuntime) {
+fn each_branch_keeps_the_nodes_before_it(rt: HostRuntime) {
     let mut store = Store::new(rt.alloc());
     for k in 0..20u64 {
         check_branch(&rt, rt.alloc(), &mut store, k);
@@ -373,8 +373,8 @@ fn compacting_keeps_the_order(rt: HostRuntime) {
     check_order_after_compaction(&rt, rt.alloc(), &mut store);
 }
 
-/// Compacts a store to a node over nine times the same, or fails to and leaves all as it was.
-fn check_refused_compaction(rt: &impl Abort, alloc: Global, store: &mut Store, whole: NodeId) {
+/// Compacts a store to a node over nine times the same, of which one is left.
+fn check_compaction_of_one(rt: &impl Abort, alloc: Global, store: &mut Store, whole: NodeId) {
     expect_in(rt, store, whole);
     let last = store
         .branch(alloc, 3, &[Child::Node(whole); 9], 8)
@@ -382,23 +382,18 @@ fn check_refused_compaction(rt: &impl Abort, alloc: Global, store: &mut Store, w
     let _dropped = store.branch(alloc, 2, &[NUMBER], 9).expect(rt, "memory");
     expect_in(rt, store, last);
     let mut roots = [last];
-    match store.compact(alloc, &mut roots) {
-        Ok(()) => expect_len(rt, store, 5),
-        Err(AllocError) => {
-            expect_len(rt, store, 6);
-            expect(rt, roots == [last], "the same root");
-        }
-    }
+    store.compact(alloc, &mut roots).expect(rt, "memory");
+    expect_len(rt, store, 5);
     let [root] = roots;
     expect_label(rt, store, root, (3, 8, 27, 37));
 }
 
-/// Passes whichever allocation of the compaction fails.
+/// That a refused compaction changes nothing is proved (`Store::compact`).
 #[test]
-fn a_refused_compaction_changes_nothing(rt: HostRuntime) {
+fn a_node_that_stands_nine_times_stays_one(rt: HostRuntime) {
     let mut store = Store::new(rt.alloc());
     let [_, _, _, whole] = sum(&rt, rt.alloc(), &mut store);
-    check_refused_compaction(&rt, rt.alloc(), &mut store, whole);
+    check_compaction_of_one(&rt, rt.alloc(), &mut store, whole);
 }
 
 /// Kinds in a vector.
