@@ -1,0 +1,9 @@
+pub mod Common
+pub mod Encodings
+pub mod PositionsAscend
+pub mod CommonEnds
+pub mod Walks
+pub mod Windows
+pub mod OutsideLines
+pub mod WindowWalks
+pub mod ColourRows

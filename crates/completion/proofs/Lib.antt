@@ -1,0 +1,9 @@
+pub mod Common
+pub mod Machines
+pub mod Splits
+pub mod Looks
+pub mod Steps
+pub mod Significant
+pub mod Matches
+pub mod Followers
+pub mod CompletionRows

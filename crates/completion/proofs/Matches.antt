@@ -1,0 +1,23 @@
+-- What a test or an option leaves of two facts.
+use Rattle.completion.proofs.Common.{◌≡◌, Bool, MatchBool, MatchOption, None, Option, Some, false, is_some, subst, true}
+
+pub of_true : (A B : Type 0) (b : Bool) → b ≡ true → MatchBool b A B → A
+of_true A B b e = subst (λ b. MatchBool b A B) e
+
+pub of_false : (A B : Type 0) (b : Bool) → b ≡ false → MatchBool b A B → B
+of_false A B b e = subst (λ b. MatchBool b A B) e
+
+pub of_none : {X : Type 0} → (P : Type 0) (Q : X → Type 0) (o : Option X) → o ≡ None → MatchOption o P Q → P
+of_none P Q o e = subst (λ o. MatchOption o P Q) e
+
+pub of_some : {X : Type 0} → (P : Type 0) (Q : X → Type 0) (o : Option X) (x : X) → o ≡ Some x → MatchOption o P Q → Q x
+of_some P Q o x e = subst (λ o. MatchOption o P Q) e
+
+-- where there is something, only what is known of it counts, and where there is nothing, only that
+pub some_after : {X : Type 0} → (P P' : Type 0) (Q Q' : X → Type 0) (o : Option X) → is_some o ≡ true → ((x : X) → Q x → Q' x) → MatchOption o P Q → MatchOption o P' Q'
+some_after P P' Q Q' None e f h = absurd (cc e)
+some_after P P' Q Q' (Some x) e f h = f x h
+
+pub none_after : {X : Type 0} → (P : Type 0) (Q : X → Type 0) (o : Option X) → is_some o ≡ false → MatchOption o P Q → P
+none_after P Q None e h = h
+none_after P Q (Some x) e h = absurd (cc e)

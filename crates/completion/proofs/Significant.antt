@@ -1,0 +1,27 @@
+-- The kinds of the first tokens that aren't skipped.
+use Rattle.completion.proofs.Common.{◌++◌, ◌+◌, ◌-◌, ◌≡◌, ◌∙◌, ◌∷◌, ◌≤◌, ℕ, true, false, List, [], ap, append-nil, append_assoc, arith, drop, length, subst, sym, take, take-append-drop, take-take, refl, kind_in, kinds_append, significant_kinds, Token}
+use Rattle.completion.proofs.Steps.{take_here}
+
+alone_skipped : (x : Token) → x.skipped ≡ true → significant_kinds (x ∷ []) ≡ []
+alone_skipped x e = rw e refl
+
+alone_taken : (x : Token) → x.skipped ≡ false → significant_kinds (x ∷ []) ≡ kind_in x ∷ []
+alone_taken x e = rw e refl
+
+-- one token more
+pub kinds_skipped : (xs : List Token) (n : ℕ) (x : Token) (rest : List Token) → drop n xs ≡ x ∷ rest → x.skipped ≡ true
+    → significant_kinds (take (n + 1) xs) ≡ significant_kinds (take n xs)
+kinds_skipped xs n x rest here e =
+    ap significant_kinds (take_here xs n x rest here) ∙ kinds_append (take n xs) (x ∷ []) ∙ ap (λ l. significant_kinds (take n xs) ++ l) (alone_skipped x e)
+    ∙ append-nil (significant_kinds (take n xs))
+
+pub kinds_taken : (xs : List Token) (n : ℕ) (x : Token) (rest : List Token) → drop n xs ≡ x ∷ rest → x.skipped ≡ false
+    → significant_kinds (take (n + 1) xs) ≡ significant_kinds (take n xs) ++ kind_in x ∷ []
+kinds_taken xs n x rest here e =
+    ap significant_kinds (take_here xs n x rest here) ∙ kinds_append (take n xs) (x ∷ []) ∙ ap (λ l. significant_kinds (take n xs) ++ l) (alone_taken x e)
+
+-- those of more tokens begin with them
+pub kinds_within : (xs : List Token) (n m : ℕ) → n ≤ m → significant_kinds (take m xs) ≡ significant_kinds (take n xs) ++ significant_kinds (drop n (take m xs))
+kinds_within xs n m le =
+    ap significant_kinds (sym (take-append-drop n (take m xs))) ∙ kinds_append (take n (take m xs)) (drop n (take m xs))
+    ∙ ap (λ l. significant_kinds l ++ significant_kinds (drop n (take m xs))) (take-take n m xs le)

@@ -1,0 +1,4 @@
+pub mod Nesting
+pub mod Stacks
+pub mod Symbols
+pub mod Found
