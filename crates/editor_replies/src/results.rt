@@ -1,0 +1,208 @@
+//! Results that are JSON values: outlines, hovers, and the brackets of a node.
+
+use definitions::{Position, Range};
+use grammar_reports::{GrammarReport, LinePart, ReportedItem};
+use hover::{BracketPair, HoverText, Markup};
+use outline::OutlineSymbol;
+use serde_json::{Value, json};
+use std::alloc::{AllocError, Global};
+use std::mem::replace;
+
+/// A symbol that lies in more others is shown as if it lay in so many: an editor's own reader of
+/// JSON goes only so deep.
+const MOST_DEPTH: usize = 64;
+
+/// A position (LSP 3.17, "Position").
+fn position_value(alloc: Global, position: Position) -> Result<Value, AllocError> {
+    json!(in alloc; {"character": position.character, "line": position.line})
+}
+
+/// A range (LSP 3.17, "Range").
+fn range_value(alloc: Global, range: Range) -> Result<Value, AllocError> {
+    let start = position_value(alloc, range.start)?;
+    let end = position_value(alloc, range.end)?;
+    json!(in alloc; {"end": end, "start": start})
+}
+
+/// A symbol, with those that lie in it (LSP 3.17, "DocumentSymbol").
+fn symbol_value(
+    alloc: Global,
+    symbol: &OutlineSymbol,
+    children: Vec<Value>,
+) -> Result<Value, AllocError> {
+    let range = range_value(alloc, symbol.range)?;
+    let selection = range_value(alloc, symbol.selection)?;
+    let name = symbol.name.as_str();
+    json!(in alloc; {
+        "children": children,
+        "kind": symbol.kind,
+        "name": name,
+        "range": range,
+        "selectionRange": selection
+    })
+}
+
+/// An empty list for each depth, and one more.
+fn levels(alloc: Global) -> Result<Vec<Vec<Value>>, AllocError> {
+    let mut levels = Vec::new(alloc);
+    for _ in 0..MOST_DEPTH + 2 {
+        levels.push(Vec::new(alloc))?;
+    }
+    Ok(levels)
+}
+
+/// What is in the list of this depth, which is empty then: from the last symbol to the first.
+fn taken(levels: &mut [Vec<Value>], alloc: Global, depth: usize) -> Vec<Value> {
+    match levels.get_mut(depth) {
+        Some(level) => {
+            let mut symbols = replace(level, Vec::new(alloc));
+            symbols.reverse();
+            symbols
+        }
+        None => Vec::new(alloc),
+    }
+}
+
+/// The symbols, each with those that lie in it. They are gone through from the last one on, so
+/// that those that lie in one are there before it.
+fn nested(alloc: Global, symbols: &[OutlineSymbol]) -> Result<Vec<Value>, AllocError> {
+    let mut levels = levels(alloc)?;
+    for symbol in symbols.iter().rev() {
+        let depth = symbol.depth.min(MOST_DEPTH);
+        let children = taken(&mut levels, alloc, depth + 1);
+        let value = symbol_value(alloc, symbol, children)?;
+        if let Some(level) = levels.get_mut(depth) {
+            level.push(value)?;
+        }
+    }
+    Ok(taken(&mut levels, alloc, 0))
+}
+
+/// The symbols one after another (LSP 3.17, "SymbolInformation").
+fn flat(alloc: Global, uri: &str, symbols: &[OutlineSymbol]) -> Result<Vec<Value>, AllocError> {
+    let mut values = Vec::with_capacity(alloc, symbols.len())?;
+    for symbol in symbols {
+        let range = range_value(alloc, symbol.range)?;
+        let name = symbol.name.as_str();
+        let value = json!(in alloc; {
+            "kind": symbol.kind,
+            "location": {"range": range, "uri": uri},
+            "name": name
+        })?;
+        values.push(value)?;
+    }
+    Ok(values)
+}
+
+/// An outline: each symbol with those that lie in it, or all of them one after another, for an
+/// editor that knows no others. Refuses for memory alone.
+pub fn outline_value(
+    alloc: Global,
+    uri: &str,
+    symbols: &[OutlineSymbol],
+    is_nested: bool,
+) -> Result<Value, AllocError> {
+    if is_nested {
+        Ok(Value::Array(nested(alloc, symbols)?))
+    } else {
+        Ok(Value::Array(flat(alloc, uri, symbols)?))
+    }
+}
+
+/// What stands at a place (LSP 3.17, "Hover"); `null` where nothing does. Refuses for memory
+/// alone.
+pub fn hover_value(
+    alloc: Global,
+    hover: &Option<HoverText>,
+    markup: Markup,
+) -> Result<Value, AllocError> {
+    let Some(hover) = hover else {
+        return Ok(Value::Null);
+    };
+    let kind = match markup {
+        Markup::Plain => "plaintext",
+        Markup::Markdown => "markdown",
+    };
+    let range = range_value(alloc, hover.range)?;
+    let text = hover.text.as_str();
+    json!(in alloc; {"contents": {"kind": kind, "value": text}, "range": range})
+}
+
+/// The brackets of a node (LSP 3.17, "DocumentHighlight", of kind 1, a text); none where there are
+/// none. Refuses for memory alone.
+pub fn brackets_value(alloc: Global, pair: &Option<BracketPair>) -> Result<Value, AllocError> {
+    let Some(pair) = pair else {
+        return json!(in alloc; []);
+    };
+    let opening = range_value(alloc, pair.opening)?;
+    let closing = range_value(alloc, pair.closing)?;
+    json!(in alloc; [{"kind": 1, "range": opening}, {"kind": 1, "range": closing}])
+}
+
+/// What who edits is told, with the protocol's number of how much it weighs
+/// (LSP 3.17, "ShowMessageParams"). Refuses for memory alone.
+pub fn told_value(alloc: Global, weight: u32, text: &str) -> Result<Value, AllocError> {
+    json!(in alloc; {"message": text, "type": weight})
+}
+
+/// That a file was written is to be told, for the files of these paths
+/// (LSP 3.17, "DidChangeWatchedFilesRegistrationOptions"). Refuses for memory alone.
+pub fn watching_value(alloc: Global, paths: &[String]) -> Result<Value, AllocError> {
+    let mut watchers = Vec::new(alloc);
+    for path in paths {
+        let glob = path.as_str();
+        watchers.push(json!(in alloc; {"globPattern": glob})?)?;
+    }
+    let options = json!(in alloc; {"watchers": watchers})?;
+    let registration = json!(in alloc; {
+        "id": "lrls-ide files",
+        "method": "workspace/didChangeWatchedFiles",
+        "registerOptions": options
+    })?;
+    json!(in alloc; {"registrations": [registration]})
+}
+
+/// The range of a part of a line (LSP 3.17, "Range").
+fn part_value(alloc: Global, part: LinePart) -> Result<Value, AllocError> {
+    let (line, first, last) = (part.line, part.start, part.end);
+    let start = json!(in alloc; {"character": first, "line": line})?;
+    let end = json!(in alloc; {"character": last, "line": line})?;
+    json!(in alloc; {"end": end, "start": start})
+}
+
+/// An item of a conflict, beside the diagnostic (LSP 3.17, "DiagnosticRelatedInformation").
+fn item_value(alloc: Global, uri: &str, item: &ReportedItem) -> Result<Value, AllocError> {
+    let (range, message) = (part_value(alloc, item.at)?, item.message.as_str());
+    let location = json!(in alloc; {"range": range, "uri": uri})?;
+    json!(in alloc; {"location": location, "message": message})
+}
+
+/// The fault of a grammar file as a diagnostic of it (LSP 3.17, "Diagnostic").
+fn report_value(alloc: Global, uri: &str, report: &GrammarReport) -> Result<Value, AllocError> {
+    let mut items = Vec::new(alloc);
+    for item in &report.items {
+        items.push(item_value(alloc, uri, item)?)?;
+    }
+    let (range, message) = (part_value(alloc, report.at)?, report.message.as_str());
+    json!(in alloc; {
+        "message": message,
+        "range": range,
+        "relatedInformation": items,
+        "severity": 1,
+        "source": "lrls"
+    })
+}
+
+/// What is published of a grammar file: its fault, or that it has none
+/// (LSP 3.17, "PublishDiagnosticsParams"). Refuses for memory alone.
+pub fn grammar_diagnostics_value(
+    alloc: Global,
+    uri: &str,
+    report: Option<&GrammarReport>,
+) -> Result<Value, AllocError> {
+    let mut diagnostics = Vec::new(alloc);
+    if let Some(report) = report {
+        diagnostics.push(report_value(alloc, uri, report)?)?;
+    }
+    json!(in alloc; {"diagnostics": diagnostics, "uri": uri})
+}

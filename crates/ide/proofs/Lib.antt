@@ -1,0 +1,13 @@
+mod Common
+mod ShownAnswers
+mod Runs
+mod Asking
+mod Refusals
+mod Own
+mod OfferTexts
+mod CutSessions
+mod Reopening
+mod InTurn
+mod Loop
+mod TheCores
+mod IdeRows

@@ -1,0 +1,9 @@
+pub mod Asked
+pub mod Shown
+pub mod States
+pub mod Steps
+pub mod Written
+pub mod Runs
+pub mod Sessions
+pub mod Loop
+pub mod Servers

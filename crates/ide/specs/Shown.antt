@@ -1,0 +1,52 @@
+-- How an editor is shown what the core answers.
+use Rattle.std.specs.Prelude.{◌≡◌, ℕ, ℤ, List, [], ◌∷◌, ◌++◌, codes, Option, Some}
+use Rattle.serde_json.specs.Data.{Data}
+use Rattle.definitions.specs.declared.Range.{Range}
+use Rattle.editor_replies.specs.Sent.{Message, WordedFault, capabilities, notice, of_core, worded}
+use Rattle.settings.specs.declared.expressions.RuleText.{RuleText}
+use Rattle.replies.specs.Replies.{Answer, capabilities_reply, log_message, published_diagnostics}
+use Rattle.replies.specs.declared.reply.Log.TheVariants.{Lost, TooManyDocuments}
+
+-- what an editor is shown of a language besides its texts: the name of the server, what begins a comment, the types of tokens by their
+-- numbers, the palette, which has the colour of each rule, where it has one, and the text of each rule that is offered
+pub record ShownData : Type 0 where
+  pub name : List ℕ
+  pub comment : List ℕ
+  pub types : List (List ℕ)
+  pub palette : List (Option ℕ)
+  pub texts : List (Option RuleText)
+
+-- `shown_fault uri version range words related`: a fault of the core at its place, with these words
+abbrev pub shown_fault : List ℕ → Option ℤ → Range → List ℕ → Option (List ℕ) → WordedFault
+shown_fault uri version range words related =
+    record { uri = uri; version = version; range = range; words = words; related = related }
+
+-- `IsShown shown answer message`: how an answer of the core is sent: its capabilities with those of the editor's server; a fault with some
+-- words in the place of the core's text; and all else as it is
+abbrev pub IsShown : ShownData → Answer → Message → Type 0
+IsShown shown (capabilities_reply id unit) message = message ≡ capabilities id unit shown.name shown.comment shown.types
+IsShown shown (published_diagnostics uri version (Some d)) message =
+    (words : List ℕ) × (related : Option (List ℕ)) × (message ≡ worded (shown_fault uri version d.0 words related) d.1)
+IsShown shown answer message = message ≡ of_core answer
+
+-- a text is shown to who edits, and nothing else (LSP 3.17, "ShowMessage Notification")
+abbrev pub IsTold : List Message → Type 0
+IsTold messages = (params : Data) × (messages ≡ notice (codes "window/showMessage") params ∷ [])
+
+-- `AreTold answer messages`: what who edits is told of an answer besides: of a lost document, and of one too many, what to do
+abbrev pub AreTold : Answer → List Message → Type 0
+AreTold (log_message (Lost loss)) messages = IsTold messages
+AreTold (log_message TooManyDocuments) messages = IsTold messages
+AreTold answer messages = messages ≡ []
+
+-- `IsPushed shown answer old new`: behind the old messages stand the answer as it is sent and what is told of it
+abbrev pub IsPushed : ShownData → Answer → List Message → List Message → Type 0
+IsPushed shown answer old new =
+    (first : Message) × (told : List Message) × IsShown shown answer first × AreTold answer told × (new ≡ old ++ first ∷ told)
+
+-- `AreShown shown answers messages`: the answers of the core as they are sent, in order, each with what is told of it, and nothing besides
+abbrev pub AreShown : ShownData → List Answer → List Message → Type 0
+AreShown shown [] messages = messages ≡ []
+AreShown shown (answer ∷ answers) messages =
+    (first : Message) × (told rest : List Message) × IsShown shown answer first × AreTold answer told × AreShown shown answers rest
+    × (messages ≡ first ∷ told ++ rest)
