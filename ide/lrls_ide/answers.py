@@ -1,4 +1,4 @@
-"""The answers that the core doesn't have: colours, outline, completion, hover and brackets."""
+"""The answers of a page that the core doesn't have: the colours of some lines, and what the page's own are made of."""
 
 import asyncio
 import contextlib
@@ -6,27 +6,17 @@ import json
 from array import array
 from typing import Any, Awaitable, Callable, Iterator
 
-from . import highlight, hover
-from .colours import Colours
-from .core import Answer, Core, Refused
-from .documents import MOST_DOCUMENTS, Document, Documents
+from .core import Core, Refused
+from .documents import Document, Documents
 from .language import Language
 from .probe import NoRoom, Probe
 from .settings import TYPES
 from .structure import Structure
-from .symbols import Entry, flat, hierarchy
-from .symbols import joined as joined_outlines
-from .text import Place, place_in, range_in
+from .text import range_in
 from .tokens import Tokens, Unread
 
 INVALID_PARAMS = Refused(-32602, "invalid params")
-CAPABILITIES = {
-    "semanticTokensProvider": {"legend": {"tokenTypes": TYPES, "tokenModifiers": []}, "full": {"delta": True}, "range": True},
-    "documentSymbolProvider": True,
-    "completionProvider": {},
-    "hoverProvider": True,
-    "documentHighlightProvider": True,
-}
+CAPABILITIES = {"semanticTokensProvider": {"legend": {"tokenTypes": TYPES, "tokenModifiers": []}, "range": True}}
 
 
 class Changed(Exception):
@@ -45,37 +35,15 @@ def uri_in(params: Any) -> str:
 class Answers:
     """Answers requests about documents, by the core and what a language says."""
 
-    def __init__(self, core: Core, documents: Documents, language: Language, client: dict[str, Any]) -> None:
+    def __init__(self, core: Core, documents: Documents, language: Language) -> None:
         self.core, self.documents, self.language = core, documents, language
-        self.probe = Probe("probe", core, documents.unit, self.has_room)
-        self.window = Probe("window", core, documents.unit, self.has_room)
-        # The tokens that were asked for when a document was opened, until somebody takes them.
-        self.early: dict[str, asyncio.Future[Answer]] = {}
+        self.probe = Probe("probe", core, documents.unit)
+        self.window = Probe("window", core, documents.unit)
         # Set while nobody waits for the colours of some lines, which come before the tokens of a whole text.
         self.calm = asyncio.Event()
         self.calm.set()
         self.hurried = 0
-        self.has_hierarchy = bool(member(client, "textDocument", "documentSymbol", "hierarchicalDocumentSymbolSupport"))
-        self.methods: dict[str, Callable[[Any], Awaitable[Any]]] = {
-            "textDocument/semanticTokens/full": self.colours,
-            "textDocument/semanticTokens/full/delta": self.colours_since,
-            "textDocument/semanticTokens/range": self.colours_between,
-            "textDocument/documentSymbol": self.outline,
-            "textDocument/completion": self.completion,
-            "textDocument/hover": self.hover,
-            "textDocument/documentHighlight": self.brackets,
-        }
-
-    def has_room(self) -> bool:
-        """Whether the core can hold one more document."""
-        open_ones = sum(probe.text is not None for probe in (self.probe, self.window))
-        return self.documents.count() + open_ones < MOST_DOCUMENTS
-
-    def make_room(self) -> None:
-        """Closes what is open here besides the editor's documents, where these may need the room."""
-        if self.documents.count() + 2 > MOST_DOCUMENTS:
-            self.probe.close()
-            self.window.close()
+        self.methods: dict[str, Callable[[Any], Awaitable[Any]]] = {"textDocument/semanticTokens/range": self.colours_between}
 
     def published(self, uri: str, diagnostics: list[dict[str, Any]]) -> bool:
         """The core publishes diagnostics. Answers whether they are of a document that is open here besides the editor's."""
@@ -84,11 +52,6 @@ class Answers:
                 probe.published(diagnostics)
                 return True
         return False
-
-    def ask_early(self, uri: str) -> None:
-        """Asks for the tokens of a document that is just opened, so that the core goes on with them at once."""
-        asked = self.early[uri] = self.core.ask("lr/tokens", uri)
-        asked.add_done_callback(lambda _: self.early.pop(uri, None) if asked.cancelled() or asked.exception() else None)
 
     async def asked(self, method: str, uri: str) -> tuple[Document, bytes]:
         """What the core says of a document, and the document as it was then. The core refuses one that isn't open, or lost."""
@@ -171,7 +134,7 @@ class Answers:
 
     async def sent_tokens(self, uri: str) -> tuple[int, Unread]:
         """All tokens of a document as the core sends them, with the document's serial then."""
-        document, data = self.held(uri, *await (self.early.pop(uri, None) or self.core.ask("lr/tokens", uri)))
+        document, data = await self.asked("lr/tokens", uri)
         return document.serial, Unread(data)
 
     def is_unchanged(self, document: Document, serial: int) -> bool:
@@ -182,30 +145,6 @@ class Answers:
         """Refuses to go on with a document that was changed."""
         if not self.is_unchanged(document, serial):
             raise Changed
-
-    async def painted(self, uri: str) -> tuple[Colours, "array[int]"]:
-        """What was sent of the colours of a document, and its colours."""
-        document, tokens = await self.tokens(uri)
-        painter = self.language.painter
-        if document.made.get("painter") is not painter:
-            document.made["painter"] = painter
-            tokens.paints = [None] * len(tokens.lines)
-        return document.made.setdefault("colours", Colours()), painter.painted(tokens, document.text)
-
-    async def colours(self, params: Any) -> Any:
-        """`textDocument/semanticTokens/full`"""
-        colours, data = await self.painted(uri_in(params))
-        colours.take(data)
-        return {"resultId": str(colours.number), "data": data.tolist()}
-
-    async def colours_since(self, params: Any) -> Any:
-        """`textDocument/semanticTokens/full/delta`"""
-        colours, data = await self.painted(uri_in(params))
-        if not colours.number or params.get("previousResultId") != str(colours.number):
-            colours.take(data)
-            return {"resultId": str(colours.number), "data": data.tolist()}
-        edits = colours.delta(data)
-        return {"resultId": str(colours.number), "edits": edits}
 
     async def colours_between(self, params: Any) -> Any:
         """`textDocument/semanticTokens/range`"""
@@ -252,70 +191,6 @@ class Answers:
             document.made["structure"] = (serial, made)
             return document, made
 
-    async def outline(self, params: Any) -> Any:
-        """`textDocument/documentSymbol`"""
-        uri = uri_in(params)
-        document, structure = await self.structure(uri)
-        serial = document.serial
-        entries = await self.language.outliner.entries(structure, document.text)
-        self.unchanged(document, serial)
-        if structure.fault is not None:
-            entries = joined_outlines(entries, self.moved(document), structure.fault)
-        else:
-            document.moves.clear()
-            document.made["outline"] = entries
-        return hierarchy(entries) if self.has_hierarchy else flat(entries, uri)
-
-    def moved(self, document: Document) -> list[Entry]:
-        """The outline of the last whole text that was asked for, where it is now."""
-        entries: list[Entry] = document.made.get("outline", [])
-        for change in document.moves:
-            entries = [entry.moved(change, document.text.unit) for entry in entries]
-        document.moves.clear()
-        if "outline" in document.made:
-            document.made["outline"] = entries
-        return entries
-
-    async def completion(self, params: Any) -> Any:
-        """`textDocument/completion`"""
-        uri, place = uri_in(params), self.place(params)
-        document, _ = await self.asked("lr/stats", uri)
-        serial = document.serial
-        try:
-            items = await self.language.completer.items(self.probe, document.text, place)
-        except NoRoom:
-            items = []
-        self.unchanged(document, serial)
-        return {"isIncomplete": False, "items": items}
-
-    def place(self, params: Any) -> Place:
-        """The place that parameters name."""
-        place = place_in(params.get("position"))
-        if place is None:
-            raise INVALID_PARAMS
-        return place
-
-    async def hover(self, params: Any) -> Any:
-        """`textDocument/hover`"""
-        uri, place = uri_in(params), self.place(params)
-        document, tokens = await self.tokens(uri)
-        place = document.text.place(*document.text.inside(place))
-        fault = hover.fault_at(document.diagnostics, place)
-        if fault is not None:
-            return hover.of_fault(self.language.wording, fault, document.text)
-        row = tokens.at(place)
-        if row is None:
-            return None
-        document, structure = await self.structure(uri)
-        return hover.of_token(row, document.text, structure, row[0] in self.language.grammar.skipped)
-
-    async def brackets(self, params: Any) -> Any:
-        """`textDocument/documentHighlight`"""
-        uri, place = uri_in(params), self.place(params)
-        document, structure = await self.structure(uri)
-        place = document.text.place(*document.text.inside(place))
-        return highlight.brackets(structure, self.language.grammar, place)
-
 
 def member(value: Any, *names: str) -> Any:
     """What objects within objects have under these names; None where something is missing."""
@@ -324,10 +199,8 @@ def member(value: Any, *names: str) -> Any:
     return value
 
 
-def with_capabilities(result: bytes, language: str, comment: str) -> bytes:
+def with_capabilities(result: bytes) -> bytes:
     """What the core answers to `initialize`, with what is answered here."""
     answer = json.loads(result)
     answer["capabilities"].update(CAPABILITIES)
-    answer["capabilities"]["experimental"] = {"lrls": {"comment": comment}}
-    answer["serverInfo"] = {"name": f"lrls-ide {language}"}
     return json.dumps(answer, ensure_ascii=False, separators=(",", ":")).encode()

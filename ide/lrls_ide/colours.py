@@ -1,6 +1,5 @@
 """The colours of a text: what the protocol calls semantic tokens."""
 
-import itertools
 from array import array
 from dataclasses import dataclass
 from typing import Iterable
@@ -8,11 +7,6 @@ from typing import Iterable
 from .settings import TYPES, Settings
 from .text import Place, Text
 from .tokens import Row, Token, Tokens
-
-# A token of the protocol is five numbers.
-WIDTH = 5
-# Each answer has a number of its own, so that no document's colours are taken for those of another one.
-NUMBERS = itertools.count(1)
 
 
 @dataclass
@@ -101,31 +95,6 @@ def joined(paints: Iterable[tuple[int, Paint]]) -> "array[int]":
         found[at + 1] = begin_in - (character if begin == line else 0)
         line, character = number + paint.last[0], paint.last[1]
     return found
-
-
-class Colours:
-    """The colours that were sent last of a document."""
-
-    def __init__(self) -> None:
-        self.sent: "array[int]" = array("I")
-        self.number = 0
-
-    def take(self, new: "array[int]") -> None:
-        """These are sent, under a new number."""
-        self.sent, self.number = new, next(NUMBERS)
-
-    def delta(self, new: "array[int]") -> list[dict[str, object]]:
-        """What turns the colours that were sent last into these, which are sent under a new number."""
-        old = self.sent
-        self.take(new)
-        width = WIDTH * new.itemsize
-        was, is_ = old.tobytes(), new.tobytes()
-        front = common_front(was, is_) // width
-        back = common_back(was, is_, (min(len(was), len(is_)) // width - front) * width) // width
-        if front * width == len(was) == len(is_):
-            return []
-        start, count = front * WIDTH, len(old) - (front + back) * WIDTH
-        return [{"start": start, "deleteCount": count, "data": new[start : len(new) - back * WIDTH].tolist()}]
 
 
 def common_front(old: bytes | str, new: bytes | str) -> int:

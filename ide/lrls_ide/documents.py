@@ -1,4 +1,4 @@
-"""The documents that the core holds for the editor: their texts, as the core has confirmed them.
+"""The documents that the core holds for a page: their texts, as the core has confirmed them.
 
 A message counts once the core has published diagnostics for it, so a text here is the core's at each of its answers. What is
 sent and not confirmed yet waits in order; a core that is started again gets that too.
@@ -14,11 +14,8 @@ from typing import Any, Sequence
 from .text import Change, Text, Unit, is_count, range_in
 from .tokens import Tokens, Unread
 
-# The core refuses more, and longer ones.
-MOST_DOCUMENTS = 64
+# The core refuses longer ones.
 MOST_BYTES = 1_048_576
-# So many changes are kept for what moves with the text.
-MOST_MOVES = 4_000
 
 
 @dataclass
@@ -45,7 +42,7 @@ class Edit:
 
 class Document:
     """An open document. `serial` is what the clock said at its last change; `lost` says why the core has lost it, where it has.
-    `made` is what was made of the text, and `moves` are the changes since its outline was. `edits` are those since its tokens were
+    `made` is what was made of the text. `edits` are those since its tokens were
     brought up to date, None where nobody has asked for them. While all tokens are read anew, `unread` has them as the core sends them,
     with the serial of then."""
 
@@ -60,7 +57,6 @@ class Document:
         self.change: Change | None = None
         self.is_sound = True
         self.diagnostics: list[dict[str, Any]] = []
-        self.moves: list[Change] = []
         self.made: dict[str, Any] = {}
         self.tokens: Tokens | None = None
         self.unread: asyncio.Future[tuple[int, Unread]] | None = None
@@ -79,7 +75,6 @@ class Document:
         if not isinstance(change, dict) or not isinstance(change.get("text"), str):
             return False
         if "range" not in change:
-            self.move(((0, 0), self.text.end(), change["text"]))
             self.change = None
             self.text = Text(change["text"], self.text.unit)
             return True
@@ -89,7 +84,6 @@ class Document:
         start, end = (self.text.place(*self.text.inside(place)) for place in sorted(places))
         self.text.replace(start, end, change["text"])
         self.change = (start, end, change["text"])
-        self.move(self.change)
         return True
 
     def counted(self, result: bytes) -> None:
@@ -98,17 +92,9 @@ class Document:
         if self.edits and self.edits[-1].serial == self.serial:
             self.edits[-1].scanned, self.edits[-1].total = stats["scanned"], stats["tokens"]
 
-    def move(self, change: Change) -> None:
-        """Notes a change for what moves with the text."""
-        if "outline" in self.made:
-            self.moves.append(change)
-        if len(self.moves) > MOST_MOVES:
-            del self.made["outline"]
-            self.moves.clear()
-
     def forget(self) -> None:
-        """Forgets what was made of the text, but for its outline, which says what stood behind a fault."""
-        self.made = {name: made for name, made in self.made.items() if name == "outline"}
+        """Forgets what was made of the text."""
+        self.made = {}
         self.tokens = self.edits = None
 
     def fits(self) -> bool:
@@ -134,9 +120,7 @@ class Documents:
         if not isinstance(document, dict) or not isinstance(uri, str):
             return
         version, text = document.get("version"), document.get("text")
-        if method == "textDocument/didClose":
-            sent = Sent("close")
-        elif not isinstance(version, int) or not is_version(version):
+        if not isinstance(version, int) or not is_version(version):
             sent = Sent("malformed")
         elif method == "textDocument/didOpen" and isinstance(text, str):
             sent = Sent("open", version, text, language=str(document.get("languageId", "")))
@@ -147,16 +131,13 @@ class Documents:
         sent.number = next(self.numbers)
         self.sent.setdefault(uri, deque()).append(sent)
 
-    def refuse(self, kinds: Sequence[str]) -> str | None:
-        """The core has refused the first message of these kinds that it hasn't confirmed: it is as if it weren't sent. The document's
-        URI."""
+    def refuse(self, kinds: Sequence[str]) -> None:
+        """The core has refused the first message of these kinds that it hasn't confirmed: it is as if it weren't sent."""
         waiting = [(sent.number, uri, sent) for uri, queue in self.sent.items() for sent in queue if sent.kind in kinds]
-        if not waiting:
-            return None
-        _, uri, sent = min(waiting, key=lambda one: one[0])
-        self.sent[uri].remove(sent)
-        self.tidy(uri)
-        return uri
+        if waiting:
+            _, uri, sent = min(waiting, key=lambda one: one[0])
+            self.sent[uri].remove(sent)
+            self.tidy(uri)
 
     def reopened(self, uri: str) -> dict[str, Any]:
         """A document is sent to the core anew: its parameters of `didOpen`."""
@@ -166,26 +147,17 @@ class Documents:
         self.sent.setdefault(uri, deque()).append(sent)
         return {"textDocument": {"uri": uri, "languageId": document.language, "version": document.version, "text": text}}
 
-    def is_settled(self, uri: str) -> bool:
-        """Whether the core has confirmed all that was sent about a document."""
-        return uri in self.held and uri not in self.sent
-
-    def count(self) -> int:
-        """How many documents the core may hold now."""
-        return len(set(self.held) | {uri for uri, queue in self.sent.items() if any(sent.kind == "open" for sent in queue)})
-
-    def published(self, uri: str, version: int | None, diagnostics: list[dict[str, Any]]) -> Document | None:
-        """The core has published diagnostics: it has taken a message. The document after it, where there is one. Without a version
-        the core has closed the document, or has lost it, and then its next message says so."""
+    def published(self, uri: str, version: int | None, diagnostics: list[dict[str, Any]]) -> None:
+        """The core has published diagnostics: it has taken a message. Without a version it has lost the document, as its next message
+        says."""
         if version is None:
             self.ending = uri
-            return None
+            return
         self.confirmed(uri, version, self.sent.get(uri, deque()))
         self.tidy(uri)
         document = self.held.get(uri)
         if document is not None:
             document.diagnostics = diagnostics
-        return document
 
     def tidy(self, uri: str) -> None:
         """Keeps no empty queue."""
@@ -209,25 +181,12 @@ class Documents:
             self.held[uri] = Document(uri, sent, self.unit, self.clock)
         elif sent.kind == "change" and uri in self.held:
             self.held[uri].apply(sent, self.clock)
-        elif sent.kind == "close":
-            self.held.pop(uri, None)
-
-    def closed(self) -> None:
-        """The core says nothing of a loss: where it has published without a version, it has closed that document."""
-        uri, self.ending = self.ending, None
-        if uri is None:
-            return
-        queue = self.sent.get(uri, deque())
-        while queue and queue.popleft().kind != "close":
-            pass
-        self.held.pop(uri, None)
-        self.tidy(uri)
 
     def lose(self, cause: str) -> Document | None:
         """The core says why it has lost a document. That document. Of what was sent about it since, the core takes nothing either."""
         uri, self.ending = self.ending or "", None
         queue = self.sent.get(uri, deque())
-        while queue and queue[0].kind != "close":
+        while queue:
             sent = queue.popleft()
             self.take(uri, sent)
             if sent.kind == "malformed" and uri in self.held:

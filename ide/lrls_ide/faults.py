@@ -5,6 +5,8 @@ from dataclasses import dataclass, field
 from pathlib import Path
 from typing import Any
 
+from .text import span
+
 LINE = re.compile(r"lrls: line (\d+): (.*)")
 ITEM = re.compile(r"item: (\S+) = (.*), (\S+)")
 PATTERN = re.compile(r"G6 bad pattern at (\d+)")
@@ -21,6 +23,51 @@ CAUSES = {
     "G10": "a skipped token can't stand in a production",
     "G11": "the grammar is over a limit",
 }
+PATTERN_CAUSES = {
+    "P1": "the pattern can't go on like this: it has literals \"if\", classes [a-z], groups (..), "
+    "and |, *, + and ?",
+    "P2": "the class has no characters",
+    "P3": "the range is the wrong way round",
+    "P4": "the literal has no characters",
+    "P5": "the pattern matches the empty text, which can't be a token",
+}
+# What those write first who know another form of grammars, on a line that is none here, and what to
+# write in its place.
+A_NAME = r"[ \t]*(?:(?:token|skip)[ \t]+)?[A-Za-z_]\w*"
+A_PRODUCTION = r"[ \t]*[A-Za-z_]\w*[ \t]+=(?:[ \t]+|$)[^\"'|({\[]*"
+A_CHOICE = "write a production for each choice, as in: S = A, and below it: S = B"
+MISTAKES = [
+    (
+        rf"{A_NAME}[ \t]*(?:->|=>|<-|::=|:=|:|\u2192|\u2190)",
+        'a production is written with "=" and a blank on both sides, as in: S = A',
+    ),
+    (
+        rf"{A_NAME}(?:=|[ \t]+=(?![ \t]|$))",
+        '"=" needs a blank on both sides, as in: S = A',
+    ),
+    (r"[ \t]*\|", f"no line goes on in the next one: {A_CHOICE}"),
+    (rf"{A_PRODUCTION}\|", f"a production has no |: {A_CHOICE}"),
+    (
+        rf"{A_PRODUCTION}[\"']",
+        'a production has names alone: give the text one, as in: token PLUS = "+"',
+    ),
+    (
+        rf"{A_PRODUCTION}\(",
+        "a production has no groups: give the part a name, and a production of its own",
+    ),
+    (
+        rf"{A_PRODUCTION}[\[{{]",
+        "a production has no brackets: write A? for what may be missing, and A* for what is repeated",
+    ),
+    (r".*;[ \t]*$", "a line ends without ;"),
+    (
+        rf"[ \t]*(?://|/\*|--|\(\*)|{A_PRODUCTION}#",
+        "a comment begins with # and has a line of its own",
+    ),
+    (r"[^\"]*\w[ \t]+[*+?](?:[ \t]|$)", "a mark comes right after the name, as in: A*"),
+]
+OF_VERSION_1 = r"[ \t]*[A-Za-z_]\w*[ \t]+=(?:[ \t]+\w+)*[ \t]+\w+[*+?]"
+OF_VERSION_1_HINT = 'the marks *, + and ? behind a name need "lrgrammar 2" as the first line'
 
 
 @dataclass
@@ -51,24 +98,14 @@ class GrammarFault:
     after: list[str] = field(default_factory=list)
     items: list[Item] = field(default_factory=list)
     lines: list[int] = field(default_factory=list)
+    hint: str | None = None
 
-    def diagnostics(self, uri: str, text: str) -> list[dict[str, Any]]:
-        """The fault as diagnostics of the grammar's file."""
+    def range(self, text: str) -> dict[str, Any]:
+        """Where the fault is in the text of the grammar: from its first character to the end of its line."""
         lines = text.split("\n")
-
-        def whole(number: int, start: int = 0) -> dict[str, Any]:
-            """The range of a line, from this character on."""
-            line = lines[number].rstrip("\r") if number < len(lines) else ""
-            width = len(line) + sum(character > "\uffff" for character in line)
-            return {"start": {"line": number, "character": min(start, width)}, "end": {"line": number, "character": width}}
-
-        diagnostic: dict[str, Any] = {"range": whole(self.line, self.start), "severity": 1, "source": "lrls", "message": self.message}
-        if self.items:
-            diagnostic["relatedInformation"] = [
-                {"location": {"uri": uri, "range": whole(line)}, "message": f"item: {item.left} = {' '.join(item.right)}, {item.look}"}
-                for item, line in zip(self.items, self.lines)
-            ]
-        return [diagnostic]
+        line = lines[self.line].rstrip("\r") if self.line < len(lines) else ""
+        width = len(line) + sum(character > "\uffff" for character in line)
+        return span((self.line, min(self.start, width)), (self.line, width))
 
 
 def read_fault(printed: str, path: Path) -> GrammarFault:
@@ -77,8 +114,10 @@ def read_fault(printed: str, path: Path) -> GrammarFault:
     found = LINE.fullmatch(lines[0])
     if found:
         number, cause = max(int(found.group(1)) - 1, 0), found.group(2)
-        why = CAUSES.get(cause.split(" ")[0], "")
-        return GrammarFault(f"{cause}: {why}" if why else cause, number, pattern_start(cause, number, path))
+        hint = hint_of(cause, number, text_of(path).split("\n"))
+        why = hint or CAUSES.get(cause.split(" ")[0], "")
+        message = f"{cause}: {why}" if why else cause
+        return GrammarFault(message, number, pattern_start(cause, number, path), hint=hint)
     if lines[0].startswith("lrls: conflict on ") and len(lines) >= 4:
         return conflict(lines, path)
     return GrammarFault(printed.strip() or "the core ended without a word")
@@ -90,6 +129,19 @@ def text_of(path: Path) -> str:
         return path.read_text(encoding="utf-8", errors="replace")
     except OSError:
         return ""
+
+
+def hint_of(cause: str, number: int, lines: list[str]) -> str | None:
+    """What to write in place of a mistake that is known: of a pattern by its cause, of a line by
+    what stands in it."""
+    if cause.startswith("G6"):
+        return PATTERN_CAUSES.get(cause.rsplit(" ", 1)[-1])
+    if not cause.startswith("G2") or number >= len(lines):
+        return None
+    line = lines[number].rstrip("\r")
+    if lines[0].rstrip("\r") == "lrgrammar 1" and re.match(OF_VERSION_1, line):
+        return OF_VERSION_1_HINT
+    return next((hint for mistake, hint in MISTAKES if re.match(mistake, line)), None)
 
 
 def pattern_start(cause: str, number: int, path: Path) -> int:

@@ -6,7 +6,6 @@ from typing import Any, Iterator
 
 # The core refuses longer ones.
 MOST_HEADER = 4_096
-MOST_CONTENT = 16_777_216
 
 LENGTH = re.compile(rb"content-length[ \t]*:[ \t]*([0-9]{1,18})[ \t]*", re.IGNORECASE)
 
@@ -16,10 +15,9 @@ class FrameFault(Exception):
 
 
 class Decoder:
-    """Cuts a stream into the contents of its frames. `most` is the most bytes of a content, where there is a limit."""
+    """Cuts a stream into the contents of its frames."""
 
-    def __init__(self, most: int | None = None) -> None:
-        self.most = most
+    def __init__(self) -> None:
         self.rest = bytearray()
         self.length: int | None = None
 
@@ -51,8 +49,6 @@ class Decoder:
         lengths = [int(match.group(1)) for match in found if match]
         if len(lengths) != 1:
             raise FrameFault(f"a header without one Content-Length: {header[:60]!r}")
-        if self.most is not None and lengths[0] > self.most:
-            raise FrameFault(f"a content of {lengths[0]:,} bytes, where {self.most:,} is the most")
         return lengths[0]
 
 

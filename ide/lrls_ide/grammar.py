@@ -195,45 +195,31 @@ class Rule:
 
 @dataclass
 class Production:
-    """A production, and the number of its line, from 0."""
+    """A production."""
 
     left: str
     right: list[str]
-    line: int
-
-    def __str__(self) -> str:
-        return " ".join([self.left, "=", *self.right])
 
 
 class Grammar:
-    """The rules, by their names in file order, the productions, and the marks."""
+    """The rules, by their names in file order, and the productions."""
 
     def __init__(self, text: str) -> None:
         self.rules: dict[str, Rule] = {}
         self.productions: list[Production] = []
-        self.folds: list[str] = []
-        self.start, self.start_line = "", 0
-        for number, line in enumerate(text.split("\n")[1:], 1):
+        for line in text.split("\n")[1:]:
             words = line.split()
             if words and not words[0].startswith("#"):
-                self.add(number, line, words)
+                self.add(line, words)
         self.left_sides = {production.left for production in self.productions}
 
-    def add(self, number: int, line: str, words: list[str]) -> None:
+    def add(self, line: str, words: list[str]) -> None:
         """Adds what a line says."""
         if words[1:2] == ["="]:
-            self.productions.append(Production(words[0], words[2:], number))
+            self.productions.append(Production(words[0], words[2:]))
         elif words[0] in ("token", "skip"):
             pattern = PatternReader(line.split("=", 1)[1].strip(" \t\r")).choice()
             self.rules[words[1]] = Rule(words[1], pattern, words[0] == "skip")
-        elif words[0] == "start":
-            self.start, self.start_line = words[1], number
-        elif words[0] == "fold":
-            self.folds.append(words[1])
-
-    def of(self, nonterminal: str) -> list[Production]:
-        """The productions of a nonterminal."""
-        return [production for production in self.productions if production.left == nonterminal]
 
     def is_token(self, name: str) -> bool:
         """Whether a name is that of a token rule."""

@@ -2,22 +2,26 @@
 
 import argparse
 import asyncio
+import contextlib
 import hmac
+import html
 import json
 import os
 import secrets
 import signal
 import sys
+import tempfile
 import time
 import webbrowser
 from pathlib import Path
-from typing import Any
+from typing import Any, Iterator
 
 from aiohttp import WSMsgType, web
 
 from . import core
 from .core import IDE
-from .page import BadMessage, Page
+from .frames import Decoder, framed
+from .page import BAD
 
 ASSETS = IDE / "playground"
 CODEMIRROR = Path("/usr/share/javascript/codemirror")
@@ -26,15 +30,23 @@ HOST = "127.0.0.1"
 MOST_PAGES = 32
 MOST_BYTES = 4 << 20
 MOST_AT_ONCE, MOST_A_SECOND = 2_000, 200
-# So many messages wait for a page that doesn't take them.
-MOST_WAITING = 5_000
+# The bytes that are read at once of what goes to a page, and the seconds that a page's end may take.
+READ, PATIENCE = 1 << 18, 10
 HEADERS = {
     "Content-Security-Policy": "default-src 'self'; style-src 'self' 'unsafe-inline'; frame-ancestors 'none'; base-uri 'none'",
     "X-Content-Type-Options": "nosniff",
     "Referrer-Policy": "no-referrer",
     "Cache-Control": "no-store",
 }
-TRY_AGAIN, POLICY = 1013, 1008
+FORWARD = """<!DOCTYPE html>
+<html lang="en">
+<meta charset="utf-8">
+<meta http-equiv="refresh" content="0; url={0}">
+<title>lrls-playground</title>
+<a href="{0}">lrls-playground</a>
+</html>
+"""
+TRY_AGAIN, POLICY, FAILED = 1013, 1008, 1011
 
 
 class Allowance:
@@ -66,7 +78,7 @@ class Playground:
         application = web.Application(middlewares=[self.guard])
         application.router.add_get("/{key}/", self.index)
         application.router.add_get("/{key}/socket", self.socket)
-        application.router.add_get("/{key}/{file:[a-z]+\\.(?:js|css)}", self.asset)
+        application.router.add_get("/{key}/{file:[a-z]+\\.(?:js|css|svg)}", self.asset)
         application.router.add_get("/{key}/codemirror/{file:[a-z/-]+\\.(?:js|css)}", self.codemirror)
         application.on_shutdown.append(self.close_all)
         return application
@@ -123,41 +135,63 @@ class Playground:
         return socket
 
     async def serve(self, socket: web.WebSocketResponse) -> None:
-        """Serves a page until its socket closes."""
-        outbox: asyncio.Queue[str] = asyncio.Queue()
-
-        def send(message: dict[str, Any] | bytes) -> None:
-            """Puts a message where it waits for the page."""
-            outbox.put_nowait(message.decode() if isinstance(message, bytes) else json.dumps(message, ensure_ascii=False))
-
-        page = Page(self.program, send)
-        writer = asyncio.create_task(self.write(socket, outbox))
+        """Serves a page until its socket closes, by a process of its own."""
+        process = await self.started()
+        writer = asyncio.create_task(self.write(socket, process))
         try:
-            await page.begin()
-            await self.read(socket, page, outbox)
+            await self.read(socket, process)
         finally:
+            assert process.stdin
+            process.stdin.close()
+            await self.ended(process)
             writer.cancel()
-            await page.end()
 
-    async def write(self, socket: web.WebSocketResponse, outbox: "asyncio.Queue[str]") -> None:
-        """Sends what waits for a page."""
-        while not socket.closed:
-            await socket.send_str(await outbox.get())
+    async def started(self) -> asyncio.subprocess.Process:
+        """The process of a page. An interrupt from the keyboard is for this one alone."""
+        pipe = asyncio.subprocess.PIPE
+        words = [sys.executable, "-BP", "-m", "lrls_ide.page", self.program]
+        environment = {**os.environ, "PYTHONPATH": str(IDE)}
+        return await asyncio.create_subprocess_exec(
+            *words, stdin=pipe, stdout=pipe, env=environment, start_new_session=True
+        )
 
-    async def read(self, socket: web.WebSocketResponse, page: Page, outbox: "asyncio.Queue[str]") -> None:
-        """Handles what a page sends. A message that no page sends ends it."""
+    async def ended(self, process: asyncio.subprocess.Process) -> None:
+        """Waits for the end of a page's process, and ends it where that takes too long."""
+        try:
+            await asyncio.wait_for(process.wait(), PATIENCE)
+        except asyncio.TimeoutError:
+            process.kill()
+            await process.wait()
+
+    async def write(self, socket: web.WebSocketResponse, process: asyncio.subprocess.Process) -> None:
+        """Sends what the process of a page says; it also says whether the page has to be closed."""
+        assert process.stdout
+        decoder = Decoder()
+        while data := await process.stdout.read(READ):
+            for content in decoder.feed(data):
+                if content.startswith(BAD):
+                    why = json.loads(content)["bad"]
+                    await socket.close(code=POLICY, message=f"no message of a page: {why}".encode())
+                elif not socket.closed:
+                    await socket.send_str(content.decode())
+        if not socket.closed:
+            await socket.close(code=FAILED, message=b"the process of the page has ended")
+
+    async def read(self, socket: web.WebSocketResponse, process: asyncio.subprocess.Process) -> None:
+        """Hands on what a page sends. A message that no page sends ends it."""
+        assert process.stdin
         allowance = Allowance()
         async for message in socket:
             if message.type != WSMsgType.TEXT:
                 await socket.close(code=POLICY, message=b"no message of a page: not a text")
                 return
-            if not allowance.takes_one() or outbox.qsize() > MOST_WAITING:
+            if not allowance.takes_one():
                 await socket.close(code=POLICY, message=b"too many messages")
                 return
+            process.stdin.write(framed(message.data.encode()))
             try:
-                await page.handle(message.data)
-            except BadMessage as bad:
-                await socket.close(code=POLICY, message=f"no message of a page: {bad}".encode())
+                await process.stdin.drain()
+            except ConnectionError:
                 return
 
     async def close_all(self, _: web.Application) -> None:
@@ -185,14 +219,26 @@ async def serve(given: argparse.Namespace, program: str) -> None:
     playground.port = site._server.sockets[0].getsockname()[1]  # type: ignore[union-attr]
     address = f"http://{HOST}:{playground.port}/{playground.key}/"
     print(f"{address}\nWhoever has this address can use the page; Ctrl-C ends it.", flush=True)
-    if given.open:
-        webbrowser.open(address)
     ended = asyncio.Event()
     asyncio.get_running_loop().add_signal_handler(signal.SIGTERM, ended.set)
-    try:
-        await ended.wait()
-    finally:
-        await runner.cleanup()
+    with forwarding(address) if given.open else contextlib.nullcontext() as file:
+        if file:
+            webbrowser.open(file.as_uri())
+        try:
+            await ended.wait()
+        finally:
+            await runner.cleanup()
+
+
+@contextlib.contextmanager
+def forwarding(address: str) -> Iterator[Path]:
+    """A file that leads to an address, while the block lasts. Only who has started the program can
+    read it: the arguments of a browser can be seen by all users of the machine."""
+    with tempfile.TemporaryDirectory(prefix="lrls-playground-") as folder:
+        file = Path(folder) / "open.html"
+        file.touch(mode=0o600)
+        file.write_text(FORWARD.format(html.escape(address)), encoding="utf-8")
+        yield file
 
 
 def main() -> int:

@@ -3,7 +3,7 @@
 import asyncio
 import json
 import re
-from typing import Any, Callable
+from typing import Any
 
 from .colours import common_back, common_front
 from .core import OWN, Core, Refused
@@ -16,7 +16,7 @@ STRANGERS = "\x00\x01\x02\x7f\ufffe\U0010fffe\u0378`$@\\?!~^%&|#"
 
 
 class NoRoom(Exception):
-    """The core can't hold one more document, or none that is as long."""
+    """The core can't hold a document that is as long, or has lost it."""
 
 
 class Verdict:
@@ -35,10 +35,10 @@ class Verdict:
 
 
 class Probe:
-    """The document. It is open only while there is room for it, and only what changes is sent. Who uses it holds its lock."""
+    """The document. Only what changes is sent. Who uses it holds its lock."""
 
-    def __init__(self, name: str, core: Core, unit: Unit, has_room: Callable[[], bool]) -> None:
-        self.core, self.unit, self.has_room = core, unit, has_room
+    def __init__(self, name: str, core: Core, unit: Unit) -> None:
+        self.core, self.unit = core, unit
         self.lock = asyncio.Lock()
         self.uri = f"lrls-ide:{OWN}{name}"
         self.text: str | None = None
@@ -46,19 +46,13 @@ class Probe:
         self.verdict = Verdict([])
         self.stranger: str | None = None
 
-    def close(self) -> None:
-        """Forgets the document, so that there is room for another one."""
-        if self.text is not None:
-            self.core.tell("textDocument/didClose", {"textDocument": {"uri": self.uri}})
-        self.text = None
-
     def published(self, diagnostics: list[dict[str, Any]]) -> None:
         """The core has published diagnostics of the document."""
         self.verdict = Verdict(diagnostics)
 
     async def show(self, text: str) -> Verdict:
         """What the core says of a text."""
-        if len(text.encode()) > MOST_BYTES or (self.text is None and not self.has_room()):
+        if len(text.encode()) > MOST_BYTES:
             raise NoRoom
         self.version += 1
         if self.text is None:

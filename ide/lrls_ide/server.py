@@ -1,7 +1,6 @@
-"""The language server `lrls-ide`: it stands between an editor and one core, and keeps that running."""
+"""A server for a part of a page: it stands between the page, which it calls its editor, and one core, and keeps that running."""
 
 import asyncio
-import contextlib
 import json
 import os
 import sys
@@ -11,17 +10,13 @@ from typing import Any, Callable, Sequence
 from .answers import INVALID_PARAMS, Answers, Changed, member, with_capabilities
 from .core import Answer, Core, Gone, Refused, how_it_ended, id_of, is_answer, why_not_started
 from .documents import Documents
-from .faults import GrammarFault, read_fault, text_of
-from .frames import MOST_CONTENT, Decoder, FrameFault, framed, read, written
+from .faults import GrammarFault, read_fault
+from .frames import read, written
 from .language import Language, Source, load
-from .streams import Reader, Writer
 from .text import Unit
 
-ABOUT_DOCUMENTS = ("textDocument/didOpen", "textDocument/didChange", "textDocument/didClose")
-METHODS = (
-    "textDocument/semanticTokens/full textDocument/semanticTokens/full/delta textDocument/semanticTokens/range "
-    "textDocument/documentSymbol textDocument/completion textDocument/hover textDocument/documentHighlight"
-).split()
+ABOUT_DOCUMENTS = ("textDocument/didOpen", "textDocument/didChange")
+METHODS = ("textDocument/semanticTokens/range",)
 PUBLISHED = b'{"jsonrpc":"2.0","method":"textDocument/publishDiagnostics"'
 LOGGED = b'{"jsonrpc":"2.0","method":"window/logMessage"'
 LOST = "document lost: "
@@ -30,22 +25,16 @@ ERROR, INFO = 1, 3
 MOST_TRIES = 8
 # How often a core is started, where signals end it before it has answered.
 MOST_STARTS = 3
-# The seconds between two looks at the files of the language.
-WATCH = 0.3
 MODIFIED = Refused(-32801, "content modified")
-CANCELLED = Refused(-32800, "request cancelled")
-ENCODINGS = ("utf-8", "utf-16", "utf-32")
 # What the core logs of a message about a document that it refuses, and what kinds of message that may be.
 REFUSALS = {
-    "didOpen: too many documents": ("open",),
     "didOpen: malformed": ("malformed",),
     "didChange: document not open": ("change", "malformed"),
-    "didClose: document not open": ("close",),
 }
 
 
 class Server:
-    """A server for one language. Phases: `new`, `ready` after `initialize`, `down` after `shutdown`."""
+    """A server for one language. Phases: `new`, and `ready` after `initialize`."""
 
     methods: Sequence[str] = METHODS
     answering: type[Answers] = Answers
@@ -63,53 +52,33 @@ class Server:
         self.params: dict[str, Any] = {}
         self.initialize: dict[str, Any] | None = None
         self.in_flight: dict[str, bytes] = {}
-        self.tasks: dict[str, asyncio.Task[None]] = {}
         self.later: list[dict[str, Any]] = []
-        self.others: set[asyncio.Task[Any]] = set()
-        self.decoder = Decoder(MOST_CONTENT)
+        self.tasks: set[asyncio.Task[Any]] = set()
 
     # From beginning to end.
 
-    async def run(self) -> int:
-        """Serves standard input and output. Answers the status to exit with."""
-        self.out = await Writer.on(1)
-        self.out.is_lost.add_done_callback(lambda _: self.leave(1))
-        await self.begin()
-        Reader(0, self.from_editor_data).start()
-        status = await self.status
-        await self.finish()
-        await self.out.close()
-        return status
-
     async def begin(self) -> None:
-        """Starts the core, and looks at the files of the language from now on."""
-        self.status: asyncio.Future[int] = asyncio.get_running_loop().create_future()
+        """Starts the core."""
         self.is_starting = True
         await self.start_first()
-        self.keep(self.watch_files())
 
     async def finish(self) -> None:
         """Ends the core, and all work."""
         core, self.core = self.core, None
-        for task in [*self.others, *self.tasks.values()]:
+        for task in list(self.tasks):
             task.cancel()
         if core:
             await core.stop()
 
-    def leave(self, status: int) -> None:
-        """Ends the server."""
-        if not self.status.done():
-            self.status.set_result(status)
-
     def keep(self, work: Any) -> None:
         """Does some work beside."""
         task = asyncio.create_task(work)
-        self.others.add(task)
+        self.tasks.add(task)
         task.add_done_callback(self.done)
 
     def done(self, task: "asyncio.Task[Any]") -> None:
         """A background task has ended: prints its exception, if any."""
-        self.others.discard(task)
+        self.tasks.discard(task)
         if not task.cancelled() and task.exception() is not None:
             traceback.print_exception(task.exception(), file=sys.stderr)
 
@@ -141,11 +110,9 @@ class Server:
     async def watch(self, core: Core) -> None:
         """Waits for the end of a core, and does what has to be done then."""
         status, printed = await core.ended()
-        if core is not self.core or self.status.done():
+        if core is not self.core:
             return
         self.core = self.answers = None
-        if self.phase == "down":
-            return
         if core.has_answered or self.language is not None:
             await self.start_again(f"the core of lrls ended {how_it_ended(status)}")
         else:
@@ -163,8 +130,7 @@ class Server:
         self.keep(self.watch(core))
         self.take_language(language, result)
         self.reopen()
-        if self.trouble is not None:
-            self.clear_trouble()
+        self.trouble = None
         if why:
             self.show(INFO, f"{why}; it was started again, and nothing was lost")
         if old:
@@ -197,9 +163,9 @@ class Server:
         assert self.core
         self.language = language
         self.documents.unit = Unit(json.loads(result)["capabilities"].get("positionEncoding", "utf-16"))
-        self.answers = self.answering(self.core, self.documents, language, self.params.get("capabilities") or {})
+        self.answers = self.answering(self.core, self.documents, language)
         if language.fault:
-            self.show(ERROR, f"{language.fault}; until it is mended, the settings are guessed from the grammar")
+            self.show(ERROR, f"{language.fault}; the settings are guessed from the grammar")
 
     def reopen(self) -> None:
         """Opens the documents in a new core, and asks it what the last one has not answered."""
@@ -211,12 +177,6 @@ class Server:
                 self.core.tell("textDocument/didOpen", self.documents.reopened(uri))
         for content in self.in_flight.values():
             self.core.send(content)
-        self.refresh_colours()
-
-    def refresh_colours(self) -> None:
-        """Has the editor ask for the colours again, where it can."""
-        if member(self.params, "capabilities", "workspace", "semanticTokens", "refreshSupport"):
-            self.send({"jsonrpc": "2.0", "id": "lrls-ide refresh", "method": "workspace/semanticTokens/refresh"})
 
     # Trouble with the grammar.
 
@@ -224,28 +184,20 @@ class Server:
         """No new core runs: says so, and answers what waits for one, where no old core goes on."""
         self.is_starting = False
         self.trouble = fault
-        goes_on = "; the last good grammar is used until it is mended" if self.core else "; it is tried again when the grammar is written"
-        self.show(ERROR, f"{why + ': ' if why else ''}{self.source.grammar.name}:{fault.line + 1}: {fault.message}{goes_on}")
-        self.publish_grammar(fault.diagnostics(self.source.grammar.as_uri(), text_of(self.source.grammar)))
+        self.tell_trouble(fault, why)
         if self.core is None:
             self.language = None
             self.answer_without_core()
 
-    def clear_trouble(self) -> None:
-        """The grammar is mended."""
-        self.trouble = None
-        self.publish_grammar([])
-        self.show(INFO, f"{self.source.grammar.name}: the grammar is mended, and used")
-
-    def publish_grammar(self, diagnostics: list[dict[str, Any]]) -> None:
-        """Publishes what is wrong in the grammar's file."""
-        params = {"uri": self.source.grammar.as_uri(), "diagnostics": diagnostics}
-        self.send({"jsonrpc": "2.0", "method": "textDocument/publishDiagnostics", "params": params})
+    def tell_trouble(self, fault: GrammarFault, why: str | None) -> None:
+        """Shows what is wrong with the grammar."""
+        goes_on = "; the last good grammar is used until it is mended" if self.core else "; it is tried again when the grammar is written"
+        self.show(ERROR, f"{why + ': ' if why else ''}{self.source.grammar.name}:{fault.line + 1}: {fault.message}{goes_on}")
 
     def answer_without_core(self) -> None:
         """Answers the requests that wait, where no core will."""
         if self.initialize is not None:
-            self.initialized(json.dumps({"capabilities": self.bare_capabilities()}).encode())
+            self.initialized(b'{"capabilities":{}}')
         for content in list(self.in_flight.values()):
             message = read(content) or {}
             self.in_flight.pop(key_of(message.get("id")), None)
@@ -255,61 +207,7 @@ class Server:
         """Why a request can't be answered."""
         return Refused(-32803, f"no core runs: {self.trouble.message if self.trouble else 'it has ended'}")
 
-    def bare_capabilities(self) -> dict[str, Any]:
-        """What the core would answer to `initialize`."""
-        offered = member(self.params, "capabilities", "general", "positionEncodings")
-        known = [name for name in offered if name in ENCODINGS] if isinstance(offered, list) else []
-        return {
-            "foldingRangeProvider": True,
-            "positionEncoding": known[0] if known else "utf-16",
-            "selectionRangeProvider": True,
-            "textDocumentSync": {"change": 2, "openClose": True},
-        }
-
-    async def watch_files(self) -> None:
-        """Looks after the files of the language. What goes wrong at one writing is printed, and the next one is looked at all the same."""
-        while True:
-            try:
-                await self.watch_each()
-            except Exception:
-                traceback.print_exc(file=sys.stderr)
-
-    async def watch_each(self) -> None:
-        """Starts the core again when the grammar was written, and takes new settings. What is still being written isn't read."""
-        known = last = self.source.stamps()
-        while True:
-            await asyncio.sleep(WATCH)
-            now = self.source.stamps()
-            is_settled, last = now == last, now
-            if now == known or not is_settled or self.phase != "ready" or self.is_starting:
-                continue
-            is_grammar, known = now[0] != known[0], now
-            if is_grammar or self.core is None:
-                await self.start_again(None)
-            elif self.core is not None and self.language is not None:
-                self.take_settings(self.loaded())
-
-    def take_settings(self, language: Language) -> None:
-        """The settings were written: they are used, and the diagnostics are published again in their words."""
-        self.take_language(language, json.dumps({"capabilities": {"positionEncoding": self.documents.unit.name}}).encode())
-        for document in self.documents.held.values():
-            document.forget()
-            self.publish(document.uri, document.version, document.diagnostics)
-        self.refresh_colours()
-
     # From the editor.
-
-    def from_editor_data(self, data: bytes) -> None:
-        """Handles what the editor has sent; nothing, where it has ended."""
-        if not data:
-            self.leave(1)
-        try:
-            for content in self.decoder.feed(data):
-                if not self.status.done():
-                    self.from_editor(content)
-        except FrameFault as fault:
-            print(f"lrls-ide: what the editor sends is no sequence of frames: {fault}", file=sys.stderr)
-            self.leave(1)
 
     def from_editor(self, content: bytes) -> None:
         """Handles a message of the editor: what is answered here begins a task, all else goes to the core."""
@@ -319,10 +217,6 @@ class Server:
             self.to_core(content)
         elif "id" in message:
             self.from_editor_request(content, message, method)
-        elif method == "exit":
-            self.keep(self.exit(content))
-        elif method == "$/cancelRequest":
-            self.cancel(message.get("params"))
         elif method in ABOUT_DOCUMENTS and self.phase == "ready":
             self.about_document(content, method, message.get("params"))
         else:
@@ -333,24 +227,12 @@ class Server:
         if method == "initialize" and self.phase == "new" and isinstance(message.get("params"), dict) and self.initialize is None:
             self.initialize, self.params = message, message["params"]
         elif method in self.methods and self.phase == "ready" and is_id(message["id"]) and message.get("jsonrpc") == "2.0":
-            number = key_of(message["id"])
-            task = asyncio.create_task(self.answer(message["id"], method, message.get("params")))
-            self.tasks[number] = task
-            task.add_done_callback(lambda _: self.answer_ended(message["id"], task))
+            self.keep(self.answer(message["id"], method, message.get("params")))
             return
-        elif method == "shutdown" and self.phase == "ready":
-            self.phase = "down"
         self.in_flight[key_of(message["id"])] = content
         self.to_core(content)
         if self.core is None and not self.is_starting:
             self.answer_without_core()
-
-    def answer_ended(self, number: Any, task: "asyncio.Task[None]") -> None:
-        """The work on a request has ended. One that was cancelled before it began is answered here."""
-        if self.tasks.get(key_of(number)) is task:
-            del self.tasks[key_of(number)]
-        if task.cancelled() and not self.status.done():
-            self.refuse(number, CANCELLED)
 
     def to_core(self, content: bytes) -> None:
         """Sends a message on, where a core runs. Requests wait for the next one otherwise, and documents are kept here."""
@@ -372,33 +254,9 @@ class Server:
         self.documents.note(method, params)
         if self.core is None:
             self.documents.settle()
-        if method == "textDocument/didOpen" and self.answers:
-            self.answers.make_room()
         self.to_core(content)
-        if self.answers and isinstance(uri, str):
-            self.answers.early.pop(uri, None)
-            if method == "textDocument/didOpen" and self.wants_colours():
-                self.answers.ask_early(uri)
         if document is not None and document.edits is not None and self.core is not None:
             self.core.note("lr/stats", document.uri, document.counted)
-
-    def cancel(self, params: Any) -> None:
-        """Ends the work on a request."""
-        task = self.tasks.get(key_of(member(params, "id")))
-        if task is not None:
-            task.cancel()
-
-    async def exit(self, content: bytes) -> None:
-        """Ends as the core does."""
-        core, self.core = self.core, None
-        status = 0 if self.phase == "down" else 1
-        if core is not None and core.runs():
-            core.send(content)
-            try:
-                status, _ = await asyncio.wait_for(core.ended(), 5)
-            except asyncio.TimeoutError:
-                core.kill()
-        self.leave(status)
 
     # Answers from here.
 
@@ -408,11 +266,9 @@ class Server:
             self.send({"jsonrpc": "2.0", "id": number, "result": await self.worked_out(method, params)})
         except Refused as refused:
             self.refuse(number, refused)
-        except asyncio.CancelledError:
-            self.refuse(number, CANCELLED)
         except Exception:
             traceback.print_exc(file=sys.stderr)
-            self.refuse(number, Refused(-32603, f"internal error of lrls-ide at {method}; its standard error says more"))
+            self.refuse(number, Refused(-32603, f"internal error of lrls-playground at {method}; its standard error says more"))
 
     async def worked_out(self, method: str, params: Any) -> Any:
         """The result of a request."""
@@ -433,8 +289,6 @@ class Server:
 
     def from_core(self, content: bytes) -> None:
         """Handles a message of the core."""
-        if not content.startswith(LOGGED):
-            self.documents.closed()
         if content.startswith(PUBLISHED):
             params = json.loads(content)["params"]
             self.published(params["uri"], params.get("version"), params["diagnostics"])
@@ -449,28 +303,14 @@ class Server:
         """The core publishes diagnostics."""
         if self.answers and self.answers.published(uri, diagnostics):
             return
-        document = self.documents.published(uri, version, diagnostics)
+        self.documents.published(uri, version, diagnostics)
         self.publish(uri, version, diagnostics)
-        if document is not None and document.edits is None and not document.lost and self.wants_colours():
-            document.edits = []
-            self.keep(self.prepare(uri))
-
-    def wants_colours(self) -> bool:
-        """Whether the editor will ask for colours."""
-        return member(self.params, "capabilities", "textDocument", "semanticTokens") is not None
-
-    async def prepare(self, uri: str) -> None:
-        """Reads the tokens of a text that was opened, since they are asked for soon."""
-        with contextlib.suppress(Changed, Gone, Refused):
-            if self.answers is not None:
-                await self.answers.tokens(uri)
 
     def publish(self, uri: str, version: int | None, diagnostics: list[dict[str, Any]]) -> None:
         """Publishes diagnostics in the words of the language."""
         document = self.documents.held.get(uri)
         if diagnostics and self.language:
-            related = member(self.params, "capabilities", "textDocument", "publishDiagnostics", "relatedInformation")
-            diagnostics = self.language.wording.diagnostics(uri, diagnostics, document.text if document else None, bool(related))
+            diagnostics = self.language.wording.diagnostics(diagnostics, document.text if document else None)
         params: dict[str, Any] = {"uri": uri, "diagnostics": diagnostics}
         if version is not None:
             params["version"] = version
@@ -480,20 +320,12 @@ class Server:
         """The core says what it can't do. A document that it has lost is shown."""
         cause = str(member(json.loads(content), "params", "message"))
         if not cause.startswith(LOST):
-            self.documents.closed()
-            self.refused(cause)
+            self.documents.refuse(REFUSALS.get(cause, ()))
         else:
             document = self.documents.lose(cause.removeprefix(LOST))
             if document is not None:
                 self.show(ERROR, self.told_loss(document.uri, cause.removeprefix(LOST)))
         self.put(content)
-
-    def refused(self, cause: str) -> None:
-        """The core has refused a message: it doesn't count. A document that has no room is shown."""
-        uri = self.documents.refuse(REFUSALS.get(cause, ()))
-        if uri is not None and cause == "didOpen: too many documents":
-            name = os.path.basename(uri) or uri
-            self.show(ERROR, f"{name} is the 65th document: it isn't looked at; close another one, and open it again")
 
     def told_loss(self, uri: str, cause: str) -> str:
         """What to say of a lost document."""
@@ -525,9 +357,7 @@ class Server:
                 language = self.loaded()
             except Trouble as trouble:
                 self.in_trouble(trouble.fault)
-        comment = language.settings.comment if language else ""
-        answer = with_capabilities(result, self.source.grammar.stem, comment)
-        self.put(b'{"jsonrpc":"2.0","id":%s,"result":%s}' % (written(number), answer))
+        self.put(b'{"jsonrpc":"2.0","id":%s,"result":%s}' % (written(number), with_capabilities(result)))
         if language:
             self.take_language(language, result)
         later, self.later = self.later, []
@@ -538,7 +368,7 @@ class Server:
 
     def put(self, content: bytes) -> None:
         """Hands a content to the editor."""
-        self.out.write(framed(content))
+        raise NotImplementedError
 
     def send(self, message: dict[str, Any]) -> None:
         """Sends a message to the editor; of its own accord only after the answer to `initialize`."""
@@ -587,8 +417,3 @@ def _encodes(content: bytes) -> bool:
     except (UnicodeEncodeError, ValueError):
         return False
     return True
-
-
-async def serve(program: str, source: Source) -> int:
-    """Runs a server for a language to its end."""
-    return await Server(program, source).run()

@@ -1,6 +1,7 @@
-"""The settings of a language: the colours of its tokens, the words of its messages, and its symbols.
+"""The settings of a language: the colours of its tokens and the words of its messages, as a page needs them.
 
-They stand in a TOML file beside the grammar. What the file doesn't say is guessed from the grammar (lrls_ide/guesses.py).
+They stand in a TOML file beside the grammar. What the file doesn't say is guessed from the grammar (lrls_ide/guesses.py). All that it
+says is looked at, since settings that don't fit a grammar are another one's.
 """
 
 import tomllib
@@ -27,30 +28,13 @@ class SettingsFault(Exception):
 
 
 @dataclass
-class Symbol:
-    """Which nodes are symbols: those of this nonterminal, and with such a token where one is given. `name` are the parts of the
-    node that its name stands in: token rules or nonterminals, or with `PART.NAME` the first NAME in a PART."""
-
-    node: str
-    name: list[str]
-    kind: str
-    token: str | None = None
-
-    def number(self) -> int:
-        """The kind's number in the protocol."""
-        return KINDS.index(self.kind) + 1
-
-
-@dataclass
 class Settings:
-    """The type of the tokens of each rule that has a colour, what messages call a rule, the texts that are offered for rules which
-    are no literal, the symbols, and what begins a comment."""
+    """The type of the tokens of each rule that has a colour, what messages call a rule, and the texts of rules which are no
+    literal."""
 
     colours: dict[str, str] = field(default_factory=dict)
     words: dict[str, str] = field(default_factory=dict)
     texts: dict[str, str] = field(default_factory=dict)
-    symbols: list[Symbol] = field(default_factory=list)
-    comment: str = ""
 
 
 class SettingsReader:
@@ -71,12 +55,12 @@ class SettingsReader:
                 raise self.fault(name, f"no such setting; the settings are {', '.join(TABLES)}")
             if not isinstance(value, TABLES[name]):
                 raise self.fault(name, f"has to be a {'list of tables' if TABLES[name] is list else TABLES[name].__name__}")
+        for number, row in enumerate(table.get("symbols", []), 1):
+            self.look_at_symbol(number, row)
         return Settings(
             colours=self.by_rule("colours", table["colours"], TYPES) if "colours" in table else guess.colours,
             words=self.by_rule("words", table["words"]) if "words" in table else guess.words,
             texts=self.by_rule("texts", table["texts"]) if "texts" in table else guess.texts,
-            symbols=[self.symbol(n, row) for n, row in enumerate(table["symbols"], 1)] if "symbols" in table else guess.symbols,
-            comment=table.get("comment", guess.comment),
         )
 
     def by_rule(self, where: str, table: dict[str, Any], allowed: list[str] | None = None) -> dict[str, str]:
@@ -90,8 +74,8 @@ class SettingsReader:
                 raise self.fault(f"[{where}] {rule}", f'"{text}" is none of {", ".join(allowed)}')
         return dict(table)
 
-    def symbol(self, number: int, row: Any) -> Symbol:
-        """One table of `symbols`."""
+    def look_at_symbol(self, number: int, row: Any) -> None:
+        """Refuses a table of `symbols` that doesn't fit the grammar."""
         where = f"[[symbols]] number {number}"
         if not isinstance(row, dict):
             raise self.fault(where, "has to be a table")
@@ -112,7 +96,6 @@ class SettingsReader:
             raise self.fault(where, f'kind: "{row["kind"]}" is none of {", ".join(KINDS)}')
         if "with" in row and not self.grammar.is_token(row["with"]):
             raise self.fault(where, f"with: {row['with']} is no token rule of the grammar")
-        return Symbol(row["node"], names, row["kind"], row.get("with"))
 
 
 def loaded(path: Path) -> dict[str, Any]:
@@ -125,32 +108,3 @@ def loaded(path: Path) -> dict[str, Any]:
         raise SettingsFault(f"{path}: is not UTF-8") from None
     except tomllib.TOMLDecodeError as error:
         raise SettingsFault(f"{path}: {error}") from None
-
-
-def quoted(text: str) -> str:
-    """A text as TOML writes it."""
-    escapes = {'"': '\\"', "\\": "\\\\", "\n": "\\n", "\r": "\\r", "\t": "\\t"}
-    return '"' + "".join(escapes.get(c, c if c >= " " and c != "\x7f" else f"\\u{ord(c):04X}") for c in text) + '"'
-
-
-def table_of(head: str, rows: dict[str, str]) -> list[str]:
-    """The lines of a table with texts."""
-    return ["", head, *(f"{name} = {quoted(text)}" for name, text in rows.items())] if rows else []
-
-
-def as_toml(settings: Settings, grammar: str) -> str:
-    """The settings as a file."""
-    lines = [
-        "# Settings of lrls-ide: docs/IDE.md says what can stand here.",
-        f"grammar = {quoted(grammar)}",
-        f"comment = {quoted(settings.comment)}",
-        *table_of("[colours]", settings.colours),
-        *table_of("[words]", settings.words),
-        *table_of("[texts]", settings.texts),
-    ]
-    for symbol in settings.symbols:
-        names = ", ".join(quoted(name) for name in symbol.name)
-        lines += ["", "[[symbols]]", f"node = {quoted(symbol.node)}"]
-        lines += [f"with = {quoted(symbol.token)}"] if symbol.token else []
-        lines += [f"name = {names if len(symbol.name) == 1 else f'[{names}]'}", f"kind = {quoted(symbol.kind)}"]
-    return "\n".join(lines) + "\n"

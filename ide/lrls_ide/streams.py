@@ -1,8 +1,7 @@
-"""Standard input and output as an editor uses them: pipes, sockets, or files."""
+"""Standard input and output of a page's process, which are pipes."""
 
 import asyncio
 import os
-import stat
 from typing import Callable
 
 READ = 1 << 16
@@ -19,9 +18,8 @@ class Writer(asyncio.BaseProtocol):
     async def on(cls, number: int) -> "Writer":
         """A writer on a file that is open under this number."""
         writer = cls()
-        if not is_plain(number):
-            file = os.fdopen(number, "wb", buffering=0, closefd=False)
-            writer.transport, _ = await asyncio.get_running_loop().connect_write_pipe(lambda: writer, file)
+        file = os.fdopen(number, "wb", buffering=0, closefd=False)
+        writer.transport, _ = await asyncio.get_running_loop().connect_write_pipe(lambda: writer, file)
         return writer
 
     def connection_lost(self, exc: Exception | None) -> None:
@@ -33,21 +31,16 @@ class Writer(asyncio.BaseProtocol):
         """Writes all of this, now or later."""
         if self.transport is not None:
             self.transport.write(data)
-            return
-        view = memoryview(data)
-        while view:
-            view = view[os.write(1, view) :]
+
+    def waiting(self) -> int:
+        """How many bytes wait for who reads them."""
+        return self.transport.get_write_buffer_size() if self.transport is not None else 0
 
     async def close(self) -> None:
         """Writes what is left, and ends."""
         if self.transport is not None:
             self.transport.close()
             await asyncio.wait([self.is_lost], timeout=5)
-
-
-def is_plain(number: int) -> bool:
-    """Whether this is a file, which is read and written without waiting."""
-    return stat.S_ISREG(os.fstat(number).st_mode)
 
 
 class Reader:
@@ -59,10 +52,7 @@ class Reader:
 
     def start(self) -> None:
         """Begins to read."""
-        if is_plain(self.number):
-            self.loop.call_soon(self.read_plain)
-        else:
-            self.loop.add_reader(self.number, self.read)
+        self.loop.add_reader(self.number, self.read)
 
     def read(self) -> None:
         """Reads what is there."""
@@ -75,10 +65,3 @@ class Reader:
         if not data:
             self.loop.remove_reader(self.number)
         self.on_data(data)
-
-    def read_plain(self) -> None:
-        """Reads a piece of a file, and goes on later."""
-        data = os.read(self.number, READ)
-        self.on_data(data)
-        if data:
-            self.loop.call_soon(self.read_plain)

@@ -21,10 +21,6 @@ class Structure:
     fault: Place | None = None
     count: int = 0
 
-    def is_open(self, node: int) -> bool:
-        """Whether a node goes on beyond the fault, or may have gone on before there was one."""
-        return self.tree is not None and self.fault is not None and self.tree.last[node] >= self.count
-
 
 class Builder:
     """Makes structures of the documents of a language."""

@@ -71,10 +71,6 @@ class Text:
         """The place of an index in a line."""
         return line, self.unit.width(self.lines[line][:index])
 
-    def end(self) -> Place:
-        """Where the text ends."""
-        return self.place(len(self.lines) - 1, len(self.lines[-1]))
-
     def before(self, place: Place) -> str:
         """All that stands before a place."""
         line, index = self.inside(place)
@@ -102,21 +98,6 @@ class Text:
         if after < len(self.lines) and new_lines[-1] == "":
             new_lines.pop()
         self.lines[before:after] = new_lines
-
-
-def moved(place: Place, change: Change, unit: Unit) -> Place:
-    """Where a place is after a change: what is replaced moves to the end of what is new."""
-    start, end, new = change
-    if place <= start:
-        return place
-    breaks = BREAK.split(new)
-    count, last = len(breaks) // 2, unit.width(breaks[-1])
-    new_end = (start[0] + count, last + (0 if count else start[1]))
-    if place < end:
-        return new_end
-    if place[0] == end[0]:
-        return new_end[0], new_end[1] + place[1] - end[1]
-    return place[0] + new_end[0] - end[0], place[1]
 
 
 def position(place: Place) -> dict[str, int]:

@@ -9,7 +9,7 @@ import asyncio
 import json
 import math
 import re
-from bisect import bisect_left, bisect_right
+from bisect import bisect_left
 from typing import Awaitable, Callable, Iterator
 
 from .text import BREAK, Change, Place, Text, Unit
@@ -71,7 +71,7 @@ class Unread:
 
     def index_of(self, line: int) -> int:
         """An index behind which the rows stand that begin in a line or below it, and no others."""
-        return bisect_left(range(len(self.data)), (line, 0), key=self.place_from)
+        return bisect_left(range(len(self.data)), (float(line), 0.0), key=self.place_from)
 
     def begin_of(self, line: int) -> int:
         """The last line before this one, or it itself, in which a token begins that may reach into it."""
@@ -112,7 +112,10 @@ class Tokens:
         lines = self.lines
         first, character = at
         if at != (0, 0):
-            by = lambda line: character if line == 0 else 0
+
+            def by(line: int) -> int:
+                return character if line == 0 else 0
+
             rows = [(name, first + line, start + by(line), first + last, end + by(last)) for name, line, start, last, end in rows]
         before, tokens = -1, lines[0]
         for name, line, start, last, end in rows:
@@ -207,18 +210,6 @@ class Tokens:
             if self.lines[line]:
                 break
         return line
-
-    def at(self, place: Place) -> Row | None:
-        """The token around a place: of two that touch there, the one that begins there."""
-        line = place[0]
-        while line >= 0:
-            tokens = self.lines[line]
-            index = bisect_right([(line, token[1]) for token in tokens], place) - 1
-            if index >= 0:
-                name, start, more, end = tokens[index]
-                return (name, line, start, line + more, end) if place <= (line + more, end) else None
-            line -= 1
-        return None
 
 
 def significant(tokens: Tokens, is_skipped: Callable[[str], bool], end: Place | None = None) -> list[Row]:

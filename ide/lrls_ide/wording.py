@@ -46,8 +46,9 @@ class Wording:
         return f'"{text}"' if text and text.isprintable() else name
 
     def is_operator(self, name: str) -> bool:
-        """Whether a rule is one of the operators, which are named together."""
-        return self.settings.colours.get(name) == "operator"
+        """Whether a rule is one of the operators, which are named together: those that the settings
+        call nothing else."""
+        return self.settings.colours.get(name) == "operator" and name not in self.settings.words
 
     def expected(self, names: list[str]) -> list[str]:
         """What the rules are called, operators together and last, before the end."""
@@ -55,11 +56,6 @@ class Wording:
         rest = [self.word(name) for name in names if name not in operators and name != "end"]
         together = [AN_OPERATOR] if len(operators) > 1 else [self.word(name) for name in operators]
         return unique([*rest, *together, *([END] if "end" in names else [])])
-
-    def every(self, names: list[str]) -> str:
-        """All rules, each with its name."""
-        words = [(self.word(name), name) for name in names]
-        return ", ".join(word if word == name or name == "end" else f"{word} ({name})" for word, name in words)
 
     def found(self, verdict: Verdict, text: str) -> str:
         """What stands where something else was expected."""
@@ -75,7 +71,7 @@ class Wording:
         """The message of a fault, at which this text stands."""
         return f"unexpected {self.found(verdict, text)}; expected {listed(self.expected(verdict.expected))}"
 
-    def diagnostics(self, uri: str, given: list[dict[str, Any]], text: Text | None, with_related: bool) -> list[dict[str, Any]]:
+    def diagnostics(self, given: list[dict[str, Any]], text: Text | None) -> list[dict[str, Any]]:
         """The core's diagnostics in the words of the language."""
         found = []
         for diagnostic in given:
@@ -83,12 +79,8 @@ class Wording:
             start, end = place_in(diagnostic["range"]["start"]), place_in(diagnostic["range"]["end"])
             if not verdict.expected or text is None or start is None or end is None:
                 found.append(diagnostic)
-                continue
-            new: dict[str, Any] = {**diagnostic, "message": self.message(verdict, text.between(start, end))}
-            if with_related and len(verdict.expected) > 1 and listed(self.expected(verdict.expected)).endswith(("..", AN_OPERATOR)):
-                location = {"uri": uri, "range": diagnostic["range"]}
-                new["relatedInformation"] = [{"location": location, "message": f"expected here: {self.every(verdict.expected)}"}]
-            found.append(new)
+            else:
+                found.append({**diagnostic, "message": self.message(verdict, text.between(start, end))})
         return found
 
 

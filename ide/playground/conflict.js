@@ -1,58 +1,74 @@
 // A conflict as a picture: what was read, the token that comes, and the two moves between which nothing decides.
 
-const SVG = "http://www.w3.org/2000/svg";
-const HEIGHT = 26;
-const GAP = 6;
+// So many symbols stay of the front that both moves have.
+const MOST_FRONT = 1;
 
-function shape(name, attributes, text = "") {
-  const element = document.createElementNS(SVG, name);
-  for (const [key, value] of Object.entries(attributes)) element.setAttribute(key, value);
+function made(tag, className, text = "") {
+  const element = document.createElement(tag);
+  element.className = className;
   element.textContent = text;
   return element;
 }
 
-const width = (text) => 14 + 7.4 * text.length;
-
-// Draws boxes side by side, and answers where the row ends.
-function boxes(svg, texts, x, y, colour, isDashed = false) {
-  for (const text of texts) {
-    const frame = { x, y, width: width(text), height: HEIGHT, rx: 4, fill: colour, stroke: "#57606a" };
-    svg.append(shape("rect", isDashed ? { ...frame, "stroke-dasharray": "4 3" } : frame));
-    svg.append(shape("text", { x: x + width(text) / 2, y: y + 17, "text-anchor": "middle" }, text));
-    x += width(text) + GAP;
+// Boxes side by side, which go on in the next line where there is no more room.
+function boxes(groups) {
+  const row = made("div", "boxes");
+  for (const [kind, symbols] of groups) {
+    for (const symbol of symbols) row.append(made("span", `box ${kind}`, symbol));
   }
-  return x;
+  return row;
 }
 
-const say = (svg, text, x, y) => svg.append(shape("text", { x, y, fill: "#57606a" }, text));
-
-// One move. A reduction takes the last symbols together; a shift takes the token to what was read.
-function move(svg, fault, item, y) {
-  const symbols = item.right.filter((name) => name !== ".");
-  const count = item.isWhole ? symbols.length : 0;
-  const kept = fault.after.slice(0, fault.after.length - count);
-  say(svg, item.isWhole ? `reduce: ${symbols.join(" ") || "nothing"} becomes ${item.left}` : `shift: ${fault.token} goes on with ${item.left}`, 4, y - 6);
-  if (item.isWhole) {
-    const x = boxes(svg, [...kept], 4, y, "#ffffff");
-    return boxes(svg, [fault.token], boxes(svg, [item.left], x, y, "#ddf4ff") + 18, y, "#fff8c5");
-  }
-  const dot = item.right.indexOf(".");
-  const x = boxes(svg, [...kept], 4, y, "#ffffff");
-  return boxes(svg, symbols.slice(dot + 1), boxes(svg, [fault.token], x, y, "#ddf4ff"), y, "#f6f8fa", true);
+// The symbols that were read up to the longer of the two moves: of a long front only the end.
+function cut(after, count) {
+  const front = after.slice(0, after.length - count);
+  return front.length > MOST_FRONT ? ["\u2026", ...front.slice(front.length - MOST_FRONT)] : front;
 }
 
-export function draw(element, fault) {
+// A reduction takes the last symbols together; a shift takes the token to what was read.
+function move(front, kept, token, { move: kind, left, symbols, dot }) {
+  if (kind === "shift") {
+    const groups = [["read", [...front, ...kept]], ["new", [token]], ["awaited", symbols.slice(dot + 1)]];
+    return ["shift", `${token} goes on with ${left}`, groups];
+  }
+  const rest = kept.slice(0, kept.length - symbols.length);
+  const groups = [["read", [...front, ...rest]], ["new", [left]], ["token", [token]]];
+  return ["reduce", `${symbols.join(" ") || "nothing"} becomes ${left}`, groups];
+}
+
+// Draws a conflict, or nothing where there is none. `go` is called with a line of the grammar. The focus stays at its move; `leave` is called where that is gone.
+export function draw(element, fault, go, leave) {
+  const items = () => [...element.querySelectorAll(".item")];
+  const at = items().indexOf(document.activeElement);
   element.replaceChildren();
-  if (!fault?.items?.length) return;
-  const svg = shape("svg", { "font-family": "monospace", "font-size": 12, role: "img", "aria-label": fault.message });
-  say(svg, "read so far, and the token that comes", 4, 14);
-  let right = boxes(svg, [fault.token], boxes(svg, fault.after, 4, 20, "#ffffff") + 18, 20, "#fff8c5");
-  fault.items.forEach((item, number) => {
-    const y = 90 + number * 66;
-    right = Math.max(right, move(svg, fault, item, y), 8 + 7.4 * (item.right.join(" ").length + item.left.length + 30));
-    say(svg, `item: ${item.left} = ${item.right.join(" ")}, ${item.look}  (line ${fault.lines[number] + 1})`, 4, y + HEIGHT + 14);
-  });
-  svg.setAttribute("width", right + 10);
-  svg.setAttribute("height", 90 + fault.items.length * 66);
-  element.append(svg);
+  picture(element, fault, go);
+  if (at >= 0 && items()[at]) items()[at].focus();
+  else if (at >= 0) leave();
+}
+
+function picture(element, fault, go) {
+  if (!fault?.conflict) return;
+  const { token, after, moves } = fault.conflict;
+  const count = Math.max(...moves.map(({ dot }) => dot));
+  const [front, kept] = [cut(after, count), after.slice(after.length - count)];
+  const figure = made("figure", "");
+  figure.setAttribute("aria-label", fault.message);
+  figure.append(made("div", "told", "read so far, and the token that comes"));
+  figure.append(boxes([["read", [...front, ...kept]], ["token", [token]]]));
+  for (const one of moves) {
+    const [kind, told, groups] = move(front, kept, token, one);
+    const title = made("div", "told");
+    title.append(made("b", "", kind), `: ${told}`);
+    figure.append(title, boxes(groups), item(one, go));
+  }
+  element.append(figure);
+}
+
+// The production of a move, with the place that has been reached in it. A click goes to its line.
+function item({ left, symbols, dot, look, line }, go) {
+  const words = [...symbols.slice(0, dot), ".", ...symbols.slice(dot)].join(" ");
+  const button = made("button", "item", `item: ${left} = ${words}, ${look}  (line ${line + 1})`);
+  button.type = "button";
+  button.addEventListener("click", () => go(line));
+  return button;
 }

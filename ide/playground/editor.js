@@ -4,6 +4,12 @@ import { later } from "./link.js";
 
 const place = ({ line, character }) => ({ line, ch: character });
 const position = ({ line, ch }) => ({ line, character: ch });
+const LOGGED = "document lost: ";
+const LOST = {
+  "too large": "more than 1,048,576 bytes: it isn't looked at until it is shorter",
+  "no memory": "too little memory for it: it isn't looked at until it is shorter",
+};
+const LEAVE = "Escape, then Tab leaves it";
 
 export class Editor {
   constructor(name, element, faultLine) {
@@ -12,6 +18,10 @@ export class Editor {
     this.faultLine = faultLine;
     this.version = 0;
     this.isQuiet = false;
+    this.isHeld = false;
+    this.diagnostics = [];
+    this.note = "";
+    this.lost = "";
     this.marks = [];
     this.faults = [];
     this.node = null;
@@ -24,32 +34,54 @@ export class Editor {
       gutters: ["CodeMirror-linenumbers", "CodeMirror-foldgutter"],
       foldOptions: { rangeFinder: (_, at) => this.foldAt(at.line) },
     });
+    this.code.getInputField().setAttribute("aria-label", `${name}; ${LEAVE}`);
     this.lookSoon = later(60, () => this.look());
+    this.code.on("beforeChange", (_, change) => this.makeWellFormed(change));
     this.code.on("changes", (_, changes) => this.changed(changes));
     this.code.on("viewportChange", this.lookSoon);
+    this.code.on("keydown", (_, event) => this.pressed(event));
+    this.code.on("blur", () => this.letTabLeave(false));
   }
 
   text() {
     return this.code.getValue();
   }
 
-  // Takes another text, as if a file were opened.
-  open(link, text) {
+  // Begins with a text, to which no undo leads back.
+  begin(text) {
+    this.isQuiet = true;
+    this.code.setValue(text);
+    this.code.clearHistory();
+    this.isQuiet = false;
+  }
+
+  // Puts a text in place of this one, which can be undone.
+  put(text) {
+    if (text !== this.text()) this.code.setValue(text);
+  }
+
+  // Opens the text at a server.
+  open(link) {
     this.link = link;
-    if (text !== this.text()) {
-      this.isQuiet = true;
-      this.code.setValue(text);
-      this.code.clearHistory();
-      this.isQuiet = false;
-    }
     this.version += 1;
     const document = { ...this.document, languageId: this.name, version: this.version, text: this.text() };
     link.notify(this.name, "textDocument/didOpen", { textDocument: document });
     this.lookSoon();
   }
 
+  // Half of a pair of units is no character to the server.
+  makeWellFormed(change) {
+    const lines = change.text.map((line) => line.replace(/\p{Surrogate}/gu, "\ufffd"));
+    if (lines.some((line, at) => line !== change.text[at])) change.update?.(change.from, change.to, lines);
+  }
+
   changed(changes) {
-    if (this.isQuiet || !this.link) return;
+    if (this.isQuiet) return;
+    if (this.link) this.tell(changes);
+    for (const listener of this.listeners) listener();
+  }
+
+  tell(changes) {
     this.version += 1;
     const contentChanges = changes.map(({ from, to, text }) => ({
       range: { start: position(from), end: position(to) },
@@ -60,7 +92,16 @@ export class Editor {
       contentChanges,
     });
     this.lookSoon();
-    for (const listener of this.listeners) listener();
+  }
+
+  // Escape lets the next Tab leave the editor.
+  pressed(event) {
+    if (event.key === "Escape") this.letTabLeave(true);
+    else if (!["Tab", "Shift"].includes(event.key)) this.letTabLeave(false);
+  }
+
+  letTabLeave(isLet) {
+    this.code.setOption("extraKeys", isLet ? { Tab: false, "Shift-Tab": false } : {});
   }
 
   ask(method, more = {}) {
@@ -71,14 +112,49 @@ export class Editor {
     return position(this.code.getCursor());
   }
 
-  // The server has published faults.
+  // The server has published faults. Without a version it has lost the text, and says why next.
   published({ diagnostics, version }) {
-    if (version !== undefined && version !== this.version) return;
-    this.mark(diagnostics);
-    const [fault] = diagnostics;
+    if (version !== this.version) return;
+    this.lost = "";
+    this.diagnostics = diagnostics;
+    this.say();
+  }
+
+  logged(words) {
+    if (!words.startsWith(LOGGED)) return;
+    const cause = words.slice(LOGGED.length);
+    this.lost = LOST[cause] ?? `the server has lost it: ${cause}`;
+    this.diagnostics = [];
+    this.say();
+  }
+
+  // Holds back what is said of the text, until it is by the grammar that counts.
+  hold(isHeld) {
+    this.isHeld = isHeld;
+    if (isHeld) return;
+    this.say();
+    this.lookSoon();
+  }
+
+  // Nothing is said of the text, since there is no grammar for it.
+  unjudged() {
+    this.hold(true);
+    this.mark([]);
+    this.paint([]);
+    this.folds.clear();
+    this.faultLine.textContent = this.note;
+    this.faultLine.className = "fault old";
+  }
+
+  say() {
+    if (this.isHeld) return;
+    this.mark(this.diagnostics);
+    const [fault] = this.diagnostics;
     const start = fault?.range.start;
-    this.faultLine.textContent = fault ? `${start.line + 1}:${start.character + 1}: ${fault.message}` : "no fault";
-    this.faultLine.classList.toggle("none", !fault);
+    const words = this.lost || (fault ? `${start.line + 1}:${start.character + 1}: ${fault.message}` : "no fault");
+    this.faultLine.textContent = this.note ? `${words}; ${this.note}` : words;
+    this.faultLine.classList.toggle("none", !fault && !this.lost && !this.note);
+    this.faultLine.classList.toggle("old", !fault && !this.lost && this.note !== "");
   }
 
   mark(diagnostics) {
@@ -95,6 +171,7 @@ export class Editor {
 
   // Asks for the colours of what is on the screen, and for the folds.
   async look() {
+    if (this.isHeld) return;
     const version = this.version;
     const { from, to } = this.code.getViewport();
     const range = { start: { line: from, character: 0 }, end: { line: Math.max(to - 1, from), character: 0 } };

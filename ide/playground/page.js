@@ -2,114 +2,215 @@
 
 import { draw } from "./conflict.js";
 import { Editor } from "./editor.js";
+import { read, save } from "./files.js";
+import { Grammar } from "./grammar.js";
 import { Link, later } from "./link.js";
+import { Store, fragment, unpacked } from "./store.js";
+import { tabs } from "./tabs.js";
+import { TokenList } from "./tokens.js";
 import { TreeView } from "./tree.js";
 
 const FIRST = "script";
+const EMPTY = { grammar: "lrgrammar 2\n", text: "" };
+const FORMS = { grammar: { name: "grammar.lr", line: "\n" }, text: { name: "text.txt", line: "\n" } };
 const part = (id) => document.getElementById(id);
-const grammar = new Editor("grammar", part("grammar"), part("grammar-fault"));
-const text = new Editor("text", part("text"), part("text-fault"));
-const tree = new TreeView(text, part("tree"), part("tokens"));
 const number = (count) => count.toLocaleString("en");
+const editors = {
+  grammar: new Editor("grammar", part("grammar"), part("grammar-fault")),
+  text: new Editor("text", part("text"), part("text-fault")),
+};
+const { grammar, text } = editors;
+const judge = new Grammar(grammar, judged);
+const tree = new TreeView(text, part("tree"), (words) => follows(words));
+const tokens = new TokenList(text, part("tokens"));
+const store = new Store();
+// What stood in both texts before others were put in their place, since the last key.
+const before = [];
+let forms = FORMS;
 let link;
 let hasStarted = false;
+let isPutting = false;
 
-// The grammar is used once nobody has typed in it for a moment.
-const useGrammar = later(250, () => link.tell({ do: "grammar", text: grammar.text() }));
-const made = later(80, async () => {
+const edited = later(80, async () => {
   try {
-    const { scanned, tokens, built, branches, milliseconds } = await text.ask("page/stats");
-    const counts = `scanned ${number(scanned)} of ${number(tokens)} tokens, built ${number(built)} of ${number(branches)} nodes`;
+    const { scanned, tokens: all, built, branches, milliseconds } = await text.ask("lrls/edit");
+    const counts = `scanned ${number(scanned)} of ${number(all)} tokens, built ${number(built)} of ${number(branches)} nodes`;
     part("made").textContent = `the last edit ${counts}, ${milliseconds.toFixed(2)} ms`;
   } catch {
     part("made").textContent = "";
   }
 });
-const follow = later(120, async () => {
-  try {
-    const { words } = await text.ask("page/expected", { position: text.cursor() });
-    part("follow").textContent = words.length ? `what may follow: ${words.join("  ")}` : "nothing may follow here";
-  } catch {
-    part("follow").textContent = "";
-  }
-});
 
-function lookAgain() {
-  for (const work of [text.lookSoon, tree.refreshSoon, tree.tokensSoon, made, follow]) work();
+function follows(words) {
+  part("follow").textContent = words.length ? `what may follow: ${words.join("  ")}` : "nothing may follow here";
 }
 
-function receive({ from, message, fault, languages, loaded, ...rest }) {
-  const editor = { grammar, text }[from];
+// What goes on in the page is said until something else does, and with what takes it back, where something can.
+function tell(words, undo) {
+  part("shown").textContent = words;
+  part("undo").hidden = !undo;
+  part("undo").onclick = undo;
+}
+
+// The text is looked at by another grammar, or by one that isn't the one there any more.
+function judged(fault) {
+  draw(part("conflict"), fault, (line) => grammar.go({ line, character: 0 }), () => grammar.code.focus());
+  text.note = judge.note();
+  const isUnjudged = judge.judging === null;
+  document.body.classList.toggle("old", text.note !== "");
+  document.body.classList.toggle("unjudged", isUnjudged);
+  for (const note of document.querySelectorAll(".note")) note.textContent = text.note;
+  if (isUnjudged) text.unjudged();
+  else text.hold(false);
+  if (!isUnjudged) for (const work of [tree.refreshSoon, tokens.refreshSoon, edited]) work();
+  keepSoon();
+}
+
+function receive({ from, message, languages, loaded, ...rest }) {
+  const editor = editors[from];
+  const { method, params } = message ?? {};
   if (languages) begin(languages);
-  else if (loaded) load(rest);
-  else if (fault !== undefined) showFault(fault);
-  else if (message?.method === "textDocument/publishDiagnostics") {
-    if (message.params.uri === editor.document.uri) showFaults(editor, message.params);
-    if (editor === text) lookAgain();
-  } else if (message?.method === "window/showMessage") {
-    part("shown").textContent = message.params.message;
-    part("shown").title = message.params.message;
-  } else if (message?.result?.capabilities) {
+  else if (loaded) load(loaded, rest);
+  else if (method === "textDocument/publishDiagnostics") published(editor, params);
+  else if (method === "window/logMessage") editor.logged(params.message);
+  else if (method === "window/showMessage") tell(params.message);
+  else if (message?.result?.capabilities) {
     editor.types = message.result.capabilities.semanticTokensProvider.legend.tokenTypes;
   }
 }
 
-function begin(languages) {
-  const options = languages.map((name) => new Option(name, name, false, name === FIRST));
-  part("menu").replaceChildren(new Option("..", ""), ...options);
-  if (hasStarted) {
-    grammar.open(link, grammar.text());
-    link.tell({ do: "grammar", text: grammar.text() });
-    text.open(link, text.text());
-  } else {
-    hasStarted = true;
-    link.tell({ do: "load", name: FIRST });
-  }
+function published(editor, params) {
+  if (params.uri !== editor.document.uri || params.version !== editor.version) return;
+  if (editor === grammar) return judge.formed(params.diagnostics);
+  text.published(params);
+  if (!text.isHeld) for (const work of [tree.refreshSoon, tokens.refreshSoon, edited]) work();
 }
 
-function load(given) {
-  grammar.open(link, given.grammar);
-  link.tell({ do: "grammar", text: given.grammar });
-  text.open(link, given.text);
-  lookAgain();
+// Where the page begins: with what this tab had, with what the address says, or with the first language of the menu.
+async function begin(languages) {
+  fill(languages);
+  if (hasStarted) return open();
+  const linked = await unpacked(location.hash);
+  const last = store.last();
+  if (!last && !linked) return link.tell({ do: "load", name: FIRST });
+  start(last ?? { ...EMPTY, ...linked });
+  if (linked) fromAddress(linked);
 }
 
-// Faults that a server sees in its text. In a grammar these are faults of form; where there are none, what `check` has said counts until
-// it says something else.
-function showFaults(editor, params) {
-  if (editor === grammar) grammar.form = params.diagnostics;
-  if (editor === grammar && params.diagnostics.length === 0 && grammar.checked) showChecked();
-  else editor.published(params);
+function start(state) {
+  hasStarted = true;
+  forms = state.forms ?? FORMS;
+  Object.assign(judge, { judging: state.judging ?? null, language: state.language ?? null });
+  grammar.begin(state.grammar);
+  text.begin(state.text);
+  named();
+  open();
 }
 
-// What `check` says of the grammar. A fault of form is shown by its own place and words, which are more exact.
-function showFault(fault) {
-  draw(part("conflict"), fault);
-  grammar.checked = fault;
-  if (!grammar.form?.length) showChecked();
-  if (!fault) lookAgain();
+function open() {
+  text.hold(true);
+  grammar.open(link);
+  text.open(link);
+  judge.begin(link);
 }
 
-function showChecked() {
-  const fault = grammar.checked;
-  if (!fault) return grammar.published({ diagnostics: [] });
-  const start = { line: fault.line, character: fault.start };
-  const end = { line: fault.line, character: grammar.code.getLine(fault.line)?.length ?? 0 };
-  grammar.published({ diagnostics: [{ range: { start, end }, message: fault.message }] });
+function load(name, { grammar: given, text: sample, names }) {
+  const [grammarForm, textForm] = names.map((its) => ({ name: its, line: "\n" }));
+  const state = { grammar: given, text: sample, language: name, forms: { grammar: grammarForm, text: textForm } };
+  if (hasStarted) put(state, `${name} is in place of both texts`);
+  else start(state);
+  part("menu").value = name;
 }
 
-function save(editor, name) {
-  const anchor = document.createElement("a");
-  anchor.href = URL.createObjectURL(new Blob([editor.text()], { type: "text/plain" }));
-  anchor.download = name;
-  anchor.click();
-  URL.revokeObjectURL(anchor.href);
+// Both texts are others. That is an edit of each, and both can be taken back at once.
+function put(state, told) {
+  before.push(now());
+  replace(state);
+  tell(`${told}.`, back);
 }
 
-async function read(input, use) {
+function back() {
+  replace(before.pop());
+  tell("Both texts are as they were.", before.length ? back : undefined);
+}
+
+function replace(state) {
+  isPutting = true;
+  text.hold(true);
+  grammar.put(state.grammar);
+  text.put(state.text);
+  isPutting = false;
+  forms = state.forms ?? FORMS;
+  judge.take(state.judging ?? null, state.language ?? null);
+  part("menu").value = "";
+  named();
+  keepSoon();
+}
+
+// A key was typed, or what stands for one.
+function typed(editor) {
+  keepSoon();
+  if (isPutting) return;
+  before.length = 0;
+  tell("");
+  if (editor === grammar) part("menu").value = "";
+}
+
+const now = () => ({ grammar: grammar.text(), text: text.text(), forms, language: judge.language, judging: judge.judging });
+
+function keep() {
+  if (hasStarted && !store.keep(now())) tell("The browser has no room to keep these texts: save them to files.");
+}
+const keepSoon = later(300, keep);
+
+function named() {
+  document.title = `${forms.grammar.name}, ${forms.text.name} - lrls`;
+}
+
+async function fromAddress(linked) {
+  history.replaceState(null, "", location.pathname);
+  put({ ...EMPTY, ...linked }, "What the address holds is in place of both texts");
+}
+
+function fill(languages) {
+  const kept = store.others().map(({ key, forms: its, at }) => {
+    const when = new Date(at).toLocaleString("en-GB", { dateStyle: "medium", timeStyle: "short" });
+    return new Option(`${its?.grammar.name ?? "grammar"}, ${when}`, key);
+  });
+  const group = document.createElement("optgroup");
+  group.label = "of other tabs";
+  group.append(...kept);
+  const groups = kept.length ? [group] : [];
+  part("menu").replaceChildren(new Option("choose ..", ""), ...languages.map((name) => new Option(name, name)), ...groups);
+}
+
+function chosen(name) {
+  const other = store.others().find(({ key }) => key === name);
+  if (other) put(other, "What another tab had is in place of both texts");
+  else if (name) link.tell({ do: "load", name });
+}
+
+async function loadFile(editor, input) {
   const [file] = input.files;
-  if (file) use(await file.text());
   input.value = "";
+  if (!file) return;
+  const { text: given, form, told } = await read(file);
+  if (given !== undefined) {
+    const state = { ...now(), [editor.name]: given, forms: { ...forms, [editor.name]: form } };
+    put(editor === grammar ? { ...state, language: null, judging: null } : state, `${form.name} is loaded`);
+  }
+  if (told) tell(told, given === undefined ? undefined : back);
+}
+
+async function copyLink() {
+  const address = location.href.split("#")[0] + (await fragment(now()));
+  try {
+    await navigator.clipboard.writeText(address);
+    tell("The link is copied. It holds both texts behind its #, and the key of this page before it.");
+  } catch {
+    tell("The browser doesn't let the page copy: take the link from the address.");
+    history.replaceState(null, "", address);
+  }
 }
 
 function connect() {
@@ -120,13 +221,22 @@ function connect() {
   });
 }
 
-grammar.listeners.push(useGrammar);
-text.listeners.push(made, follow);
-text.code.on("cursorActivity", follow);
-part("menu").addEventListener("change", (event) => event.target.value && link.tell({ do: "load", name: event.target.value }));
-part("save-grammar").addEventListener("click", () => save(grammar, "grammar.lr"));
-part("save-text").addEventListener("click", () => save(text, "text.txt"));
-part("load-grammar").addEventListener("change", (event) => read(event.target, (given) => grammar.code.setValue(given)));
-part("load-text").addEventListener("change", (event) => read(event.target, (given) => text.code.setValue(given)));
+for (const editor of [grammar, text]) {
+  editor.listeners.push(() => typed(editor));
+  const input = part(`${editor.name}-file`);
+  part(`load-${editor.name}`).addEventListener("click", () => input.click());
+  input.addEventListener("change", () => loadFile(editor, input));
+  part(`save-${editor.name}`).addEventListener("click", () => save(editor, forms[editor.name]));
+}
+text.listeners.push(edited);
+part("menu").addEventListener("change", (event) => chosen(event.target.value));
+part("empty").addEventListener("click", () => put(EMPTY, "Both texts are empty"));
+part("copy").addEventListener("click", copyLink);
 part("lost").querySelector("button").addEventListener("click", connect);
+addEventListener("pagehide", keep);
+addEventListener("hashchange", async () => {
+  const linked = await unpacked(location.hash);
+  if (linked && hasStarted) fromAddress(linked);
+});
+tabs(part("tabs"), () => { for (const { code } of [grammar, text]) code.refresh(); });
 connect();

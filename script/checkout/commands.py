@@ -6,7 +6,7 @@ import os
 import subprocess
 import sys
 import time
-from typing import Dict, List, Optional
+from typing import Dict, List
 
 import messages
 import proving
@@ -17,10 +17,14 @@ from layout import install
 from marks import statement
 from package import package
 from refusals import Refusal, wrong_words
+from programs import Program
 from running import run
-from sources import Checkout, Program
+from sources import Checkout
 from words import look_at
 from work import end_by_signals, read, say
+
+# The files of `script` that say what the words of each program are.
+HELP = {"lrls": ("help", "help-of-checkout"), "lrls-ide": ("help-of-lrls-ide",)}
 
 
 def make(checkout: Checkout, program: Program) -> str:
@@ -57,7 +61,7 @@ def make_for_editor(checkout: Checkout, program: Program) -> str:
         os.makedirs(os.path.dirname(log), exist_ok=True)
         told = len(read(log).splitlines())
         with open(log, "ab") as file:
-            words = [checkout.path("lrls"), "build"]
+            words = [checkout.path("lrls"), "build", program.command]
             builder = subprocess.Popen(
                 words, stdin=subprocess.DEVNULL, stdout=file, stderr=file, start_new_session=True
             )
@@ -72,6 +76,13 @@ def make_for_editor(checkout: Checkout, program: Program) -> str:
     return path
 
 
+def tell(line: str) -> None:
+    """Prints a line, and sends it to an editor that has spoken."""
+    say(line)
+    if messages.has_spoken():
+        messages.log(line)
+
+
 def pass_on(builder: "subprocess.Popen[bytes]", log: str, told: int) -> None:
     """Tells the editor what another process prints into a log that has so many lines already, until
     that process ends."""
@@ -79,22 +90,21 @@ def pass_on(builder: "subprocess.Popen[bytes]", log: str, told: int) -> None:
         has_ended = builder.poll() is not None
         lines = read(log).splitlines()
         for line in lines[told:]:
-            messages.tell(line[len("lrls: ") :] if line.startswith("lrls: ") else line)
+            tell(line[len("lrls: ") :] if line.startswith("lrls: ") else line)
         told = len(lines)
         if has_ended:
             return
         time.sleep(0.2)
 
 
-def run_made(checkout: Checkout, program: Program, words: List[str], path: Optional[str]) -> None:
-    """Runs the program in place of this script, and makes it first where it isn't there."""
-    serves_editor = words[:1] == ["serve"] and messages.is_from_editor()
-    if path is None:
-        look_at(words)
-        path = make_for_editor(checkout, program) if serves_editor else make(checkout, program)
-    elif serves_editor and messages.has_spoken(None):
-        messages.log(quick.UNPROVED)
-    run(checkout, path, words)
+def make_and_run(checkout: Checkout, program: Program, words: List[str]) -> None:
+    """Makes the program, and runs it in place of this script."""
+    look_at(checkout.top, program.command, words)
+    if program.serves(words) and messages.is_from_editor():
+        path = make_for_editor(checkout, program)
+    else:
+        path = make(checkout, program)
+    run(checkout, program, path, words)
 
 
 def print_version(checkout: Checkout, program: Program) -> None:
@@ -108,9 +118,9 @@ def print_version(checkout: Checkout, program: Program) -> None:
     print("\n".join(lines))
 
 
-def print_help(checkout: Checkout) -> None:
-    """Prints what the commands are."""
-    for name in ("help", "help-of-checkout"):
+def print_help(checkout: Checkout, program: Program) -> None:
+    """Prints what the words are that a program is run with."""
+    for name in HELP[program.command]:
         print(read(checkout.path("script", name)), end="")
 
 
@@ -122,26 +132,37 @@ def programs_made(checkout: Checkout) -> Dict[str, str]:
     }
 
 
-def build(checkout: Checkout) -> None:
-    """Makes each program without a proof, where it isn't there so, and says how it was made."""
-    for program in checkout.programs():
-        say(f"{program.command} was {statement(make(checkout, program))}")
+def build(checkout: Checkout, names: List[str]) -> None:
+    """Makes the programs of these commands, or all, without a proof, where they aren't there so,
+    and says how each was made."""
+    programs = {program.command: program for program in checkout.programs()}
+    if len(names) > 1 or not programs.keys() >= set(names):
+        raise wrong_words(f"lrls build [{' | '.join(programs)}]")
+    for name in names or programs:
+        say(f"{name} was {statement(make(checkout, programs[name]))}")
+
+
+def prove(checkout: Checkout, words: List[str]) -> None:
+    """Proves and builds each program."""
+    if words:
+        raise wrong_words("lrls prove")
+    proving.prove_all(checkout)
 
 
 def sizes(checkout: Checkout, words: List[str]) -> None:
     """Shows how near grammars are to the limits."""
-    os.execv(sys.executable, [sys.executable, checkout.path("tests", "sizes"), *words])
+    os.execv(sys.executable, [sys.executable, checkout.path("tests", "oracles", "sizes"), *words])
 
 
-def do(checkout: Checkout, program: Program, words: List[str], path: Optional[str]) -> None:
-    """Does what the words say."""
+def do(checkout: Checkout, program: Program, words: List[str]) -> None:
+    """Does what the words say, where no program is there that they are for."""
     command, rest = (words[0], words[1:]) if words else ("", [])
-    if command in ("build", "prove") and rest:
-        raise wrong_words(f"lrls {command}")
-    if command == "build":
-        build(checkout)
+    if command not in program.own:
+        make_and_run(checkout, program, words)
+    elif command == "build":
+        build(checkout, rest)
     elif command == "prove":
-        proving.prove_all(checkout)
+        prove(checkout, rest)
     elif command == "install":
         install(checkout, rest, programs_made)
     elif command == "package":
@@ -150,17 +171,15 @@ def do(checkout: Checkout, program: Program, words: List[str], path: Optional[st
         sizes(checkout, rest)
     elif command == "--version":
         print_version(checkout, program)
-    elif command in ("--help", "-h"):
-        print_help(checkout)
     else:
-        run_made(checkout, program, words, path)
+        print_help(checkout, program)
 
 
-def main(checkout: Checkout, program: Program, words: List[str], path: Optional[str]) -> int:
-    """Does what the words say, with the program that is there, if any. The status."""
+def main(checkout: Checkout, program: Program, words: List[str]) -> int:
+    """Does what the words say, where no program is there that they are for. The status."""
     end_by_signals()
     try:
-        do(checkout, program, words, path)
+        do(checkout, program, words)
     except Refusal as refusal:
         sys.stderr.write(refusal.text())
         return refusal.status

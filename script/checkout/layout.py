@@ -17,10 +17,16 @@ from work import say
 
 USAGE = "lrls install FOLDER | install --prefix FOLDER"
 # Folders of the repository that an installation has in share/lrls. Of each the executable files
-# that are named lrls-* have a link in bin, where no program of the repository has their name.
+# that are named lrls-* have a link in bin.
 CARRIED = ("grammars", "editors", "ide")
 # Scripts of an installation, by where they stand in the repository.
-SCRIPTS = {"show": "script/show", "sizes": "tests/sizes", "trees": "tests/trees"}
+SCRIPTS = {"show": "script/show", "sizes": "tests/oracles/sizes", "trees": "tests/oracles/trees"}
+# What the commands answer to --help, by where it stands in share/lrls.
+HELP = {"help": "script/help", "help-of-lrls-ide": "script/help-of-lrls-ide"}
+# Where the commands stand in the repository that run a program. In share/lrls links lead from there
+# to bin: the files for editors look for `lrls` beside their folder, and editors start
+# `ide/lrls-ide`.
+STARTS = {"lrls": "lrls", "lrls-ide": "ide/lrls-ide"}
 
 # The paths of the programs by their commands, each made where it isn't there.
 Programs = Callable[[Checkout], Dict[str, str]]
@@ -100,9 +106,8 @@ def lay_out(checkout: Checkout, prefix: str, programs: Dict[str, str]) -> None:
         os.makedirs(os.path.join(prefix, folder), exist_ok=True)
     for name, source in SCRIPTS.items():
         replace(checkout.path(source), os.path.join(share, name), 0o755)
-    replace(checkout.path("script", "help"), os.path.join(share, "help"), 0o644)
-    # The editor files look for the command beside their own folder.
-    os.symlink("../../bin/lrls", os.path.join(share, "lrls"))
+    for name, source in HELP.items():
+        replace(checkout.path(source), os.path.join(share, name), 0o644)
     for folder in CARRIED:
         carry(checkout, prefix, folder)
     place_programs(checkout, prefix, programs)
@@ -111,11 +116,14 @@ def lay_out(checkout: Checkout, prefix: str, programs: Dict[str, str]) -> None:
 
 
 def place_programs(checkout: Checkout, prefix: str, programs: Dict[str, str]) -> None:
-    """Copies the programs, and writes what `--version` says of them."""
+    """Copies the programs with the commands that run them, and writes what `--version` says of
+    them."""
     for command, program in programs.items():
         replace(program, os.path.join(prefix, "lib", "lrls", command), 0o755)
-        link(f"../lib/lrls/{command}", os.path.join(prefix, "bin", command))
-    replace(checkout.path("script", "installed"), os.path.join(prefix, "bin", "lrls"), 0o755)
+        replace(checkout.path("script", "installed"), os.path.join(prefix, "bin", command), 0o755)
+        start = os.path.join(prefix, "share", "lrls", STARTS[command])
+        os.makedirs(os.path.dirname(start), exist_ok=True)
+        link(os.path.relpath(os.path.join(prefix, "bin", command), os.path.dirname(start)), start)
     made = [
         f"{command}: {statement(program)}"
         for command, program in programs.items()
@@ -134,12 +142,13 @@ def link(target: str, path: str) -> None:
 
 
 def carry(checkout: Checkout, prefix: str, folder: str) -> None:
-    """Copies a folder of the repository into share/lrls, without what Python keeps. Everyone may
-    read it."""
+    """Copies a folder of the repository into share/lrls, without what Python and its tools keep and
+    the commands of a checkout. Everyone may read it."""
     if not os.path.isdir(checkout.path(folder)):
         return
     target = os.path.join(prefix, "share", "lrls", folder)
-    shutil.copytree(checkout.path(folder), target, ignore=shutil.ignore_patterns("__pycache__"))
+    left_out = shutil.ignore_patterns("__pycache__", "out", *STARTS)
+    shutil.copytree(checkout.path(folder), target, ignore=left_out)
     for where, _, names in os.walk(target):
         os.chmod(where, 0o755)
         for name in names:

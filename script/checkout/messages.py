@@ -1,5 +1,7 @@
 """What an editor that starts the server is told: log messages of the protocol, besides lines on
-standard error."""
+standard error.
+
+A session of a program that is there reads this first, so it imports little. """
 
 from __future__ import annotations
 
@@ -12,7 +14,10 @@ import select
 import termios
 from typing import Optional
 
-from work import say
+UNPROVED = (
+    "the proofs of this commit weren't repeated on this machine: `lrls prove` repeats them and "
+    "makes the faster program, which counts from then on"
+)
 
 INPUT, OUTPUT = 0, 1
 # The type `Info` of a message.
@@ -47,8 +52,8 @@ def log(line: str) -> None:
     os.write(OUTPUT, b"Content-Length: %d\r\n\r\n%s" % (len(content), content))
 
 
-def tell(line: str) -> None:
-    """Prints a line, and sends it to a client that has spoken."""
-    say(line)
-    if has_spoken():
-        log(line)
+def log_unproved() -> None:
+    """Tells the editor that has started a session, once it speaks, that its program was made
+    without a proof."""
+    if is_from_editor() and has_spoken(None):
+        log(UNPROVED)

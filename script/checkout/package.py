@@ -20,7 +20,7 @@ from work import say
 
 USAGE = "lrls package [FOLDER]"
 TOOLS = ("dpkg", "dpkg-deb", "strip")
-# What the package needs besides the C library, and what `ide/` needs.
+# What the package needs besides the C library, and what the page in the browser needs.
 NEEDED = "python3 (>= 3.8)"
 RECOMMENDED = "python3 (>= 3.11), python3-aiohttp, libjs-codemirror"
 NOBODY = "lrls <lrls@example.invalid>"

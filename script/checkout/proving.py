@@ -15,7 +15,8 @@ from kit import Kit
 from marks import logic_of, statement, write_note
 from quick import put
 from refusals import Refusal
-from sources import OTHER_PARTS, Checkout, Program
+from programs import Program
+from sources import OTHER_PARTS, Checkout
 from work import MIB, Clock, follow, locked, need_room, read, say
 
 # What is kept of the proofs takes some 80 MiB a crate where it stands, and a program 1.

@@ -6,30 +6,28 @@ begin. """
 from __future__ import annotations
 
 import os
-import sys
 
+from programs import Program
 from sources import Checkout
-
-# Commands of the script itself. All other words are the program's.
-OWN = ("build", "prove", "install", "package", "sizes", "--version", "--help", "-h")
 
 
 def start(top: str, command: str, words: list[str]) -> int:
     """Does what the words say. The status, where no program runs in place of the script."""
     checkout = Checkout(top)
     program = checkout.program(command)
-    path = None if words[:1] and words[0] in OWN else checkout.made(program)
-    if path is not None and not (words[:1] == ["serve"] and path == checkout.quick(program)):
-        run(checkout, path, words)
+    path = None if words[:1] and words[0] in program.own else checkout.made(program)
+    if path is not None:
+        if program.serves(words) and path == checkout.quick(program):
+            from messages import log_unproved
+
+            log_unproved()
+        run(checkout, program, path, words)
     from commands import main
 
-    return main(checkout, program, words, path)
+    return main(checkout, program, words)
 
 
-def run(checkout: Checkout, path: str, words: list[str]) -> None:
-    """Runs a program in place of this script, or `show`, which is its client."""
-    if words[:1] == ["show"]:
-        os.execv(
-            sys.executable, [sys.executable, checkout.path("script", "show"), path, *words[1:]]
-        )
-    os.execv(path, [path, *words])
+def run(checkout: Checkout, program: Program, path: str, words: list[str]) -> None:
+    """Runs the program at this path in place of this script, or a client of it."""
+    line = program.line(path, checkout.top, words)
+    os.execv(line[0], line)

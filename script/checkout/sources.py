@@ -7,8 +7,8 @@ from __future__ import annotations
 
 import os
 
-# The crates that are programs, and the commands that they are run by.
-COMMANDS = {"lrls": "lrls", "lrls_ide": "lrls-ide"}
+from programs import PROGRAMS, Program
+
 # Parts of a crate that its program isn't made of.
 OTHER_PARTS = ("out", "must-fail", "wrong-definitions")
 
@@ -24,14 +24,6 @@ def newest(folder: str) -> int:
             elif entry.name not in OTHER_PARTS:
                 found.append(newest(entry.path))
     return max(found)
-
-
-class Program:
-    """A program of the repository: its crate, and the command that runs it."""
-
-    def __init__(self, crate: str, command: str) -> None:
-        self.crate = crate
-        self.command = command
 
 
 class Checkout:
@@ -74,7 +66,7 @@ class Checkout:
     def programs(self) -> list[Program]:
         """The programs that crates.txt lists."""
         crates = self.libraries()
-        return [Program(crate, command) for crate, command in COMMANDS.items() if crate in crates]
+        return [program for program in PROGRAMS if program.crate in crates]
 
     def program(self, command: str) -> Program:
         """The program that this command runs."""

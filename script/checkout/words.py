@@ -2,13 +2,15 @@
 
 from __future__ import annotations
 
+import argparse
 import os
 import stat
-from typing import List, Tuple
+from typing import List, NoReturn, Tuple
 
-from refusals import Refusal
+from refusals import Refusal, wrong_words
 
 USAGE = "lrls check GRAMMAR | parse GRAMMAR TEXT | serve GRAMMAR"
+LANGUAGE_USAGE = "lrls-ide [--grammars FOLDER] [--settings] LANGUAGE"
 SHOW_OPTIONS = ("--tokens", "--nodes")
 # How many files each command names.
 FILES = {"check": 1, "serve": 1, "parse": 2, "show": 2}
@@ -34,9 +36,17 @@ def split(words: List[str]) -> Tuple[List[str], List[str]]:
     return files, options
 
 
-def look_at(words: List[str]) -> None:
-    """Refuses words that the program would refuse, files that can't be read, and a file that is no
-    grammar, before anything is built."""
+def look_at(top: str, command: str, words: List[str]) -> None:
+    """Refuses words that the program of this command would refuse, files that can't be read, and a
+    file that is no grammar, before anything is built."""
+    if command == "lrls":
+        look_at_command(words)
+    else:
+        look_at_language(os.path.join(top, "grammars"), words)
+
+
+def look_at_command(words: List[str]) -> None:
+    """The same of `lrls`."""
     command = words[0] if words else ""
     files, options = split(words[1:])
     known = SHOW_OPTIONS if command == "show" else ()
@@ -47,6 +57,31 @@ def look_at(words: List[str]) -> None:
             raise Refusal(1, f"cannot read {path}")
     if not may_be_grammar(files[0]):
         raise Refusal(2, "line 1: G1 first line")
+
+
+class LanguageWords(argparse.ArgumentParser):
+    """The words of `lrls-ide`, with these grammars where they name none."""
+
+    def __init__(self, grammars: str) -> None:
+        super().__init__(add_help=False, allow_abbrev=False)
+        self.add_argument("--grammars", default=grammars)
+        self.add_argument("--settings", action="store_true")
+        self.add_argument("language")
+
+    def error(self, message: str) -> NoReturn:
+        """Refuses other words."""
+        raise wrong_words(LANGUAGE_USAGE)
+
+
+def look_at_language(grammars: str, words: List[str]) -> None:
+    """The same of `lrls-ide`, which serves a grammar with a fault too. Settings may name another
+    grammar, so they aren't looked at."""
+    given = LanguageWords(grammars).parse_args(words)
+    path = given.language
+    if not set(path) & set("./"):
+        path = os.path.join(given.grammars, f"{path}.lr")
+    if not path.endswith(".toml") and (os.path.isdir(path) or not os.access(path, os.R_OK)):
+        raise Refusal(1, f"cannot read {path}")
 
 
 def may_be_grammar(path: str) -> bool:
