@@ -20,6 +20,7 @@ NOT_RUN = (
     "grammar_reports",
     "hover",
     "ide",
+    "mending",
     "outline",
     "serving",
     "settings",

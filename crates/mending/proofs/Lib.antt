@@ -1,0 +1,3 @@
+pub mod OnStack
+pub mod Mended
+pub mod Moves

@@ -1,0 +1,3 @@
+pub mod Stacks
+pub mod Changes
+pub mod Mendings

@@ -1,0 +1,27 @@
+//! What mends a fault.
+
+/// What is done at a place of the kinds.
+#[derive(Clone, Copy, Debug, PartialEq, Eq)]
+pub enum Change {
+    /// The kind of this token rule is put in.
+    PutIn(usize),
+    /// The next kind is left out.
+    LeaveOut,
+    /// The next kind stays.
+    Keep,
+}
+
+/// What mends a fault: changes of the kinds from a place on. Its places are those of the copy as
+/// the repairs before it have left it, but for `from`.
+#[derive(Debug, PartialEq, Eq, Drop)]
+pub struct Repair {
+    /// The number of the first kind with which no sentence goes on, or that of the end.
+    pub fault: usize,
+    /// The number of the kind from which on there are changes: the fault's, or an earlier one
+    /// where kinds are left out up to where something begins anew.
+    pub at: usize,
+    /// The number of the same kind in what is mended.
+    pub from: usize,
+    /// What is done from there on.
+    pub changes: Vec<Change>,
+}

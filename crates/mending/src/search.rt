@@ -1,0 +1,264 @@
+//! The search for few changes that mend a fault (Corchuelo and others 2002; Diekmann and Tratt
+//! 2020).
+
+use crate::ahead::{Ahead, ENOUGH};
+use crate::repair::Change;
+use definitions::Kind;
+use indexmap::IndexSet;
+use std::alloc::{AllocError, Global};
+
+/// How many kinds may be put in or left out together.
+const MOST_CHANGES: usize = 4;
+
+/// How many kinds have to go on after a change so that a fault behind them is another one.
+const NEAR: usize = 32;
+
+/// How many changes a fault costs that comes sooner, since it mostly follows from the changes.
+const SOON: usize = 3;
+
+/// How many changes another fault costs.
+const LATER: usize = 1;
+
+/// How many places are tried.
+const MOST_PLACES: usize = 8192;
+
+/// The rank of leaving a kind out, and of what isn't ranked.
+const LEFT_OUT: usize = 1;
+
+/// A place to which changes lead.
+#[derive(Clone, Copy)]
+struct Place {
+    /// The stack there.
+    stack: usize,
+    /// How many of the kinds ahead are passed.
+    passed: usize,
+    /// The number of the place from which one change leads here.
+    from: usize,
+    /// How many kinds stay between them.
+    kept: usize,
+    /// That change.
+    change: Change,
+    /// The sum of the ranks of all changes that lead here.
+    rank: usize,
+}
+
+/// How good a place is.
+#[derive(Clone, Copy)]
+struct Rating {
+    cost: usize,
+    /// The number of the first kind with which it doesn't go on.
+    reach: usize,
+    rank: usize,
+    /// The number of the place.
+    place: usize,
+}
+
+impl Rating {
+    /// Whether it is better than another one.
+    fn is_better(self, other: Rating) -> bool {
+        if self.cost != other.cost {
+            return self.cost < other.cost;
+        }
+        if self.reach != other.reach {
+            return other.reach < self.reach;
+        }
+        self.rank < other.rank
+    }
+}
+
+/// A search for what mends the fault at the first of some kinds.
+#[derive(Drop)]
+pub struct Search<'a> {
+    alloc: Global,
+    pub ahead: Ahead<'a>,
+    /// The rank of each token rule, of which low ones are put in rather than high ones.
+    ranks: &'a [u8],
+    places: Vec<Place>,
+    /// The stack of each place, and how many kinds are passed there.
+    seen: IndexSet<(usize, usize)>,
+    best: Option<Rating>,
+}
+
+impl<'a> Search<'a> {
+    /// A search that begins with this stack.
+    pub fn new(
+        alloc: Global,
+        ahead: Ahead<'a>,
+        ranks: &'a [u8],
+        stack: usize,
+    ) -> Result<Search<'a>, AllocError> {
+        let mut places = Vec::new(alloc);
+        places.push(Place {
+            stack,
+            passed: 0,
+            from: 0,
+            kept: 0,
+            change: Change::Keep,
+            rank: 0,
+        })?;
+        Ok(Search {
+            alloc,
+            ahead,
+            ranks,
+            places,
+            seen: IndexSet::new(alloc),
+            best: None,
+        })
+    }
+
+    /// Adds a place, unless the same is there, reached by no more changes.
+    fn add(&mut self, place: Place) -> Result<(), AllocError> {
+        let is_new = self.seen.insert((place.stack, place.passed))?;
+        if is_new && self.places.len() < MOST_PLACES {
+            self.places.push(place)?;
+        }
+        Ok(())
+    }
+
+    /// Adds the place where the next kind is left out, if there is one.
+    fn leave_out(&mut self, here: Place) -> Result<(), AllocError> {
+        if self.ahead.kinds.len() <= here.passed {
+            return Ok(());
+        }
+        self.add(Place {
+            passed: here.passed.saturating_add(1),
+            change: Change::LeaveOut,
+            rank: here.rank.saturating_add(LEFT_OUT),
+            ..here
+        })
+    }
+
+    /// Adds the place where a kind is put in, if it goes on.
+    fn put_in(&mut self, here: Place, rule: usize) -> Result<(), AllocError> {
+        let Some(stack) = self.ahead.stacks.read(here.stack, Kind::Rule(rule))? else {
+            return Ok(());
+        };
+        let rank = match self.ranks.get(rule) {
+            Some(rank) => *rank,
+            None => u8::MAX,
+        };
+        self.add(Place {
+            stack,
+            change: Change::PutIn(rule),
+            rank: here.rank.saturating_add(rank as usize),
+            ..here
+        })
+    }
+
+    /// Adds the places to which one change leads.
+    fn change(&mut self, here: Place) -> Result<(), AllocError> {
+        self.leave_out(here)?;
+        for look in self.ahead.stacks.expected(here.stack) {
+            if let Some(rule) = look {
+                self.put_in(here, rule)?;
+            }
+        }
+        Ok(())
+    }
+
+    /// Adds the places to which one change more leads, right at a place or a few kinds on.
+    fn expand(&mut self, number: usize) -> Result<(), AllocError> {
+        let Some(place) = self.places.get(number).copied() else {
+            return Ok(());
+        };
+        let mut here = Place {
+            from: number,
+            ..place
+        };
+        for kept in 0..ENOUGH {
+            here.kept = kept;
+            self.change(here)?;
+            let Some(stack) = self.ahead.read(here.stack, here.passed)? else {
+                return Ok(());
+            };
+            here.stack = stack;
+            here.passed = here.passed.saturating_add(1);
+        }
+        Ok(())
+    }
+
+    /// Takes a place, to which so many changes lead, for the best one, if enough kinds go on from
+    /// there and it is better.
+    fn rate(&mut self, number: usize, changes: usize) -> Result<(), AllocError> {
+        let Some(place) = self.places.get(number).copied() else {
+            return Ok(());
+        };
+        let reach = self.ahead.reach(place.stack, place.passed)?;
+        if !self.ahead.is_enough(place.passed, reach) {
+            return Ok(());
+        }
+        let more = if reach == usize::MAX {
+            0
+        } else if place.passed.saturating_add(NEAR) <= reach {
+            LATER
+        } else {
+            SOON
+        };
+        let rating = Rating {
+            cost: changes.saturating_add(more),
+            reach,
+            rank: place.rank,
+            place: number,
+        };
+        match self.best {
+            Some(best) if !rating.is_better(best) => {}
+            _ => self.best = Some(rating),
+        }
+        Ok(())
+    }
+
+    /// Adds and rates the places to which so many changes lead, one more than to those from number
+    /// `from` on.
+    fn go_on(&mut self, from: usize, changes: usize) -> Result<(), AllocError> {
+        let to = self.places.len();
+        for number in from..to {
+            self.expand(number)?;
+        }
+        for number in to..self.places.len() {
+            self.rate(number, changes)?;
+        }
+        Ok(())
+    }
+
+    /// The changes that lead to a place.
+    fn changes(&self, place: usize) -> Result<Vec<Change>, AllocError> {
+        let mut changes = Vec::new(self.alloc);
+        let mut number = place;
+        for _ in 0..MOST_CHANGES {
+            let Some(place) = self.places.get(number) else {
+                break;
+            };
+            if number == 0 {
+                break;
+            }
+            changes.push(place.change)?;
+            for _ in 0..place.kept {
+                changes.push(Change::Keep)?;
+            }
+            number = place.from;
+        }
+        changes.reverse();
+        Ok(changes)
+    }
+
+    /// The cheapest changes after which enough kinds go on, where a fault that comes behind costs
+    /// too; of these the ones with which the most kinds go on, then those of the least rank, and
+    /// then the first ones, where leaving out comes before putting in, and that in file order.
+    pub fn run(&mut self) -> Result<Option<Vec<Change>>, AllocError> {
+        let mut from = 0;
+        for changes in 1..=MOST_CHANGES {
+            if let Some(best) = self.best
+                && best.cost <= changes
+            {
+                break;
+            }
+            let to = self.places.len();
+            self.go_on(from, changes)?;
+            from = to;
+        }
+        match self.best {
+            Some(best) => Ok(Some(self.changes(best.place)?)),
+            None => Ok(None),
+        }
+    }
+}

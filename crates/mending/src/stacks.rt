@@ -1,0 +1,193 @@
+//! Stacks of the LR(1) machine, by their states alone. They share what lies below.
+
+ghost use Rattle.std.specs.Prelude.{◌≡◌, List, Option, IfOk, IfSome};
+ghost use Rattle.definitions.specs.declared.Kind.{Kind as TokenKind};
+ghost use Rattle.definitions.specs.declared.Symbol.{Symbol};
+ghost use Rattle.definitions.specs.Items.{HasMove, Reduce as ReduceMove};
+ghost use Rattle.mending.specs.Stacks.{IsOnStack, IsReached};
+
+use definitions::Kind;
+use indexmap::IndexSet;
+use std::alloc::{AllocError, Global};
+use std::marker::Model;
+use tables::{Expected, Move, Tables};
+use trees::{Child, Store};
+
+/// A state, and the number of the stack below it.
+#[derive(Clone, Copy)]
+struct Level {
+    state: usize,
+    below: usize,
+}
+
+/// Stacks by number. Equal ones have one number, and the one of no kinds has 0.
+#[derive(Drop)]
+pub struct Stacks<'a> {
+    tables: &'a Tables,
+    /// The topmost state of each stack.
+    levels: Vec<Level>,
+    /// What lies below each stack but the first, and its state.
+    known: IndexSet<(usize, usize)>,
+    /// How many moves may be made yet.
+    left: usize,
+}
+
+impl<'a> Model for Stacks<'a> {
+    ghost use Rattle.tables.specs.Tables.{Sets};
+    ghost use Rattle.mending.specs.Stacks.{AreReached};
+
+    ghost Value = { Sets };
+
+    ghost view = { λ s. s.tables.now };
+
+    ghost invariant = { λ s. AreReached s.tables.now s.levels.items };
+}
+
+impl<'a> Stacks<'a> {
+    /// The stack of no kinds alone. No moves may be made yet.
+    pub fn new(alloc: Global, tables: &'a Tables) -> Result<Stacks<'a>, AllocError>
+        ensures { IfOk result (λ s. s ≡ tables.now) }
+    {
+        let mut levels = Vec::new(alloc);
+        levels.push(Level {
+            state: tables.start(),
+            below: 0,
+        })?;
+        Ok(Stacks {
+            tables,
+            levels,
+            known: IndexSet::new(alloc),
+            left: 0,
+        })
+    }
+
+    /// Lets so many moves be made from now on. Where there are no more, nothing goes on.
+    pub fn allow(&mut self, moves: usize)
+        ensures { self.new ≡ self.old }
+    {
+        self.left = moves;
+    }
+
+    /// The topmost level of a stack; that of no kinds where no stack has the number.
+    fn level(&self, stack: usize) -> Level
+        ensures { IsReached self.now result.state }
+    {
+        match self.levels.get(stack) {
+            Some(level) => *level,
+            None => Level {
+                state: self.tables.start(),
+                below: 0,
+            },
+        }
+    }
+
+    /// The number of the stack with one state more.
+    fn push(&mut self, below: usize, state: usize) -> Result<usize, AllocError>
+        requires { IsReached self.old state }
+        ensures { self.new ≡ self.old }
+    {
+        let (index, is_new) = self.known.insert_full((below, state))?;
+        if is_new {
+            self.levels.push(Level { state, below })?;
+        }
+        Ok(index.saturating_add(1))
+    }
+
+    /// The stack below so many states.
+    fn below(&self, stack: usize, count: usize) -> usize {
+        let mut below = stack;
+        for _ in 0..count {
+            below = self.level(below).below;
+        }
+        below
+    }
+
+    /// The stack with the left side of a production in the place of its right side.
+    fn reduce(&mut self, stack: usize, production: usize) -> Result<Option<usize>, AllocError>
+        requires { (look : Option TokenKind) × (symbols : List Symbol)
+            × HasMove self.old.grammar symbols look (ReduceMove production) }
+        ensures { self.new ≡ self.old }
+    {
+        let (symbol, size) = self.tables.production(production);
+        let below = self.below(stack, size);
+        match self.tables.goto(self.level(below).state, symbol) {
+            Some(next) => Ok(Some(self.push(below, next)?)),
+            None => Ok(None),
+        }
+    }
+
+    /// The stack after one kind more, or before the end where there is none, if the grammar goes
+    /// on with it.
+    fn after(&mut self, stack: usize, look: Option<Kind>) -> Result<Option<usize>, AllocError>
+        ensures { self.new ≡ self.old }
+    {
+        let mut at = stack;
+        for _ in 0..self.left {
+            self.left = self.left.saturating_sub(1);
+            match self.tables.action(self.level(at).state, look) {
+                Some(Move::Shift(next)) => return Ok(Some(self.push(at, next)?)),
+                Some(Move::Reduce(production)) => match self.reduce(at, production)? {
+                    Some(reduced) => at = reduced,
+                    None => return Ok(None),
+                },
+                Some(Move::Accept) => return Ok(Some(at)),
+                None => return Ok(None),
+            }
+        }
+        Ok(None)
+    }
+
+    /// The stack after one kind more, if the grammar goes on with it.
+    pub fn read(&mut self, stack: usize, kind: Kind) -> Result<Option<usize>, AllocError>
+        ensures { self.new ≡ self.old }
+    {
+        self.after(stack, Some(kind))
+    }
+
+    /// Whether the end may follow.
+    pub fn may_end(&mut self, stack: usize) -> Result<bool, AllocError>
+        ensures { self.new ≡ self.old }
+    {
+        Ok(self.after(stack, None)?.is_some())
+    }
+
+    /// What may follow.
+    pub fn expected(&self, stack: usize) -> Expected<'a> {
+        self.tables.expects(self.level(stack).state)
+    }
+
+    /// The state after a tree, if there is one.
+    fn state_after(&self, state: usize, store: &Store, child: Child) -> Option<usize>
+        requires reached { IsReached self.now state }
+        requires child { IsOnStack self.now.grammar store.now child }
+        ensures { IfSome result (IsReached self.now) }
+    {
+        match child {
+            Child::Token(kind) => match self.tables.action(state, Some(kind)) {
+                Some(Move::Shift(next)) => Some(next),
+                _ => None,
+            },
+            Child::Node(id) => {
+                let (symbol, _) = self.tables.production(store.production(id));
+                self.tables.goto(state, symbol)
+            }
+        }
+    }
+
+    /// The stack with one tree more, if there is a state for it.
+    pub fn add(
+        &mut self,
+        stack: usize,
+        store: &Store,
+        child: Child,
+    ) -> Result<Option<usize>, AllocError>
+        requires { IsOnStack self.old.grammar store.now child }
+        ensures { self.new ≡ self.old }
+    {
+        let state = self.level(stack).state;
+        match self.state_after(state, store, child) {
+            Some(next) => Ok(Some(self.push(stack, next)?)),
+            None => Ok(None),
+        }
+    }
+}

@@ -1,0 +1,5 @@
+//! Tests of the public calls of `mending`. The crate has nothing else.
+#![tactic(auto)]
+
+#[cfg(test)]
+mod mendings;

@@ -1,0 +1,151 @@
+//! Mended copies of worked kinds of sums. `tests/mending` has real texts.
+
+ghost use Rattle.std.specs.Prelude.{⊤};
+
+use definitions::Kind;
+use grammar::Grammar;
+use mending::{Change, Mending};
+use std::alloc::Global;
+use std::process::Abort;
+use tables::Tables;
+use trees::Kinds;
+use worked::SUMS;
+
+const NUM: Kind = Kind::Rule(0);
+
+const PLUS: Kind = Kind::Rule(1);
+
+const LP: Kind = Kind::Rule(2);
+
+const RP: Kind = Kind::Rule(3);
+
+/// A sign and a closing parenthesis are put in rather than a number, and that rather than an
+/// opening one.
+const RANKS: &[u8] = &[2, 0, 3, 0];
+
+#[derive(Drop)]
+struct Listed<'a> {
+    kinds: &'a [Kind],
+}
+
+impl<'a> Kinds for Listed<'a> {
+    type Ahead = ();
+
+    ghost kinds = { λ s. s.kinds.now };
+
+    ghost is_before = { λ s k ahead. ⊤ };
+
+    fn len(&self) -> usize {
+        self.kinds.len()
+    }
+
+    fn kind(&self, k: usize) -> Option<Kind> {
+        self.kinds.get(k).copied()
+    }
+
+    fn ahead(&self, _k: usize) {}
+
+    fn next(&self, _ahead: &mut (), k: usize) -> Option<Kind> {
+        self.kind(k)
+    }
+}
+
+/// Kinds, the number of the fault that is mended, how it is, and the copy.
+type Row<'a> = (&'a [Kind], usize, &'a [Change], &'a [Kind]);
+
+/// The kinds have one fault, which is mended so, and the copy is whole.
+fn assert_mended(rt: &impl Abort, alloc: Global, tables: &Tables, row: &Row<'_>) {
+    let (kinds, fault, changes, copy) = *row;
+    let mended = Mending::whole(alloc, tables, RANKS, &Listed { kinds }).expect(rt, "a mending");
+    assert!(rt; mended.repairs().len() == 1);
+    let repair = &mended.repairs()[0];
+    assert!(rt; (repair.fault, repair.at, repair.from) == (fault, fault, fault));
+    assert!(rt; repair.changes.as_slice() == changes);
+    assert!(rt; mended.kinds() == copy);
+    assert!(rt; mended.tree().is_some());
+}
+
+fn sums(rt: &impl Abort, alloc: Global) -> Tables {
+    let grammar = Grammar::read(alloc, SUMS).expect(rt, "a grammar");
+    Tables::build(alloc, &grammar).expect(rt, "tables")
+}
+
+#[test]
+fn one_fault_is_mended(rt: HostRuntime) {
+    let put_in = |rule| Change::PutIn(rule);
+    let rows: [Row<'_>; 6] = [
+        (&[NUM, NUM], 1, &[put_in(1)], &[NUM, PLUS, NUM]),
+        (&[LP, NUM], 2, &[put_in(3)], &[LP, NUM, RP]),
+        (&[NUM, RP], 1, &[Change::LeaveOut], &[NUM]),
+        (
+            &[NUM, PLUS, PLUS, NUM],
+            2,
+            &[Change::LeaveOut],
+            &[NUM, PLUS, NUM],
+        ),
+        (
+            &[NUM, PLUS, Kind::Invalid, NUM],
+            2,
+            &[Change::LeaveOut],
+            &[NUM, PLUS, NUM],
+        ),
+        (&[], 0, &[put_in(0)], &[NUM]),
+    ];
+    let tables = sums(&rt, rt.alloc());
+    for row in &rows {
+        assert_mended(&rt, rt.alloc(), &tables, row);
+    }
+}
+
+#[test]
+fn faults_close_together_are_mended_as_one(rt: HostRuntime) {
+    let kinds = [LP, NUM, RP, RP, PLUS, RP];
+    let changes = [Change::LeaveOut; 3];
+    let copy = [LP, NUM, RP];
+    let tables = sums(&rt, rt.alloc());
+    assert_mended(&rt, rt.alloc(), &tables, &(&kinds, 3, &changes, &copy));
+}
+
+#[test]
+fn what_no_few_changes_mend_is_left_out(rt: HostRuntime) {
+    let kinds = [NUM, RP, RP, RP, RP, RP, RP, PLUS, NUM, PLUS, NUM];
+    let changes = [Change::LeaveOut; 6];
+    let copy = [NUM, PLUS, NUM, PLUS, NUM];
+    let tables = sums(&rt, rt.alloc());
+    assert_mended(&rt, rt.alloc(), &tables, &(&kinds, 1, &changes, &copy));
+}
+
+#[test]
+fn a_sentence_has_no_repair(rt: HostRuntime) {
+    let kinds = [LP, NUM, RP];
+    let tables = sums(&rt, rt.alloc());
+    let listed = Listed { kinds: &kinds };
+    let mended = Mending::whole(rt.alloc(), &tables, RANKS, &listed).expect(&rt, "a mending");
+    assert!(rt; mended.repairs().is_empty());
+    assert!(rt; mended.kinds() == kinds.as_slice());
+    assert!(rt; mended.tree().is_some());
+}
+
+#[test]
+fn three_faults_are_mended_one_after_another(rt: HostRuntime) {
+    let sum = [NUM, PLUS, NUM, PLUS, NUM, PLUS, NUM, PLUS];
+    let mut kinds = Vec::new(rt.alloc());
+    for _ in 0..3 {
+        for _ in 0..6 {
+            kinds.extend_from_slice(&sum).expect(&rt, "memory");
+        }
+        kinds.push(RP).expect(&rt, "memory");
+    }
+    kinds.push(NUM).expect(&rt, "memory");
+    let tables = sums(&rt, rt.alloc());
+    let listed = Listed { kinds: &kinds };
+    let mended = Mending::whole(rt.alloc(), &tables, RANKS, &listed).expect(&rt, "a mending");
+    assert!(rt; mended.repairs().len() == 3);
+    for (number, repair) in mended.repairs().iter().enumerate() {
+        assert!(rt;
+            repair.changes.as_slice() == [Change::LeaveOut].as_slice(),
+            "at {number}"
+        );
+    }
+    assert!(rt; mended.tree().is_some());
+}
