@@ -1,5 +1,5 @@
 -- What repairs make of kinds.
-use Rattle.std.proofs.Common.{◌≡◌, ◌∙◌, ◌<◌, ◌≤◌, ◌+◌, ◌-◌, ◌++◌, ℕ, zero, suc, List, [], ◌∷◌, ap, append_assoc, arith, drop, get_or, inl, inr, length, length-append, refl, slice_get, subst, sym, take, take-append-drop, Some}
+use Rattle.std.proofs.Common.{◌≡◌, ◌∙◌, ◌<◌, ◌≤◌, ◌+◌, ◌-◌, ◌++◌, ℕ, zero, suc, List, [], ◌∷◌, ap, append_assoc, arith, drop, get_or, inl, inr, length, length-append, refl, slice_get, subst, sym, take, take-append-drop, Option, Some}
 use Rattle.definitions.specs.declared.Kind.{Kind}
 use Rattle.definitions.specs.declared.Kind.TheVariants.{Invalid}
 use Rattle.definitions.specs.Sentences.{IsSentence}
@@ -8,7 +8,12 @@ use Rattle.theory.proofs.Verdicts.{viable_prefix}
 use Rattle.std.proofs.Math.Seq.{drop-append_seam, drop-cons}
 use Rattle.std.proofs.lemmas.List.{append-nil, drop-drop, length-take-le}
 use Rattle.mending.specs.Changes.{changed, passed}
+use Rattle.tables.specs.Expected.{AreExpected}
 use Rattle.tables.specs.Tables.{Sets}
+use Rattle.trees.specs.Cells.{Cell}
+use Rattle.parser.specs.Parses.{AreExpectedAt, verdict_in}
+use Rattle.parser.specs.declared.parse.Verdict.{Verdict}
+use Rattle.parser.specs.declared.parse.Verdict.TheVariants.{FaultAt, FaultAtEnd}
 use Rattle.mending.specs.Mendings.{IsFirstFault, IsMended, IsMendingOf, With_more, With_none}
 use Rattle.mending.specs.declared.mending.Mending.{Mending}
 use Rattle.mending.specs.declared.repair.Change.{Change}
@@ -106,3 +111,12 @@ take_get (j ∷ kinds) (suc n) k e = ap (λ l. j ∷ l) (take_get kinds n k e)
 -- one kind more
 pub taken : (kinds : List Kind) (n : ℕ) (k : Kind) → slice_get kinds n ≡ Some k → take (n + 1) kinds ≡ take n kinds ++ (k ∷ [])
 taken kinds n k e = ap (λ m. take m kinds) (let s : n + 1 ≡ suc n = omega arith in s) ∙ take_get kinds n k e
+
+-- what could have stood at a fault
+pub expected_at : (g : Grammar) (kinds : List Kind) (cells : List Cell) (v : Verdict) (k : ℕ) (looks : List (Option ℕ)) → v ≡ FaultAt k
+    → AreExpectedAt g kinds (verdict_in cells v) looks → AreExpected g (take k kinds) looks
+expected_at g kinds cells v k looks e at = subst (λ w. AreExpectedAt g kinds (verdict_in cells w) looks) e at
+
+pub expected_at_end : (g : Grammar) (kinds : List Kind) (cells : List Cell) (v : Verdict) (looks : List (Option ℕ)) → v ≡ FaultAtEnd
+    → AreExpectedAt g kinds (verdict_in cells v) looks → AreExpected g kinds looks
+expected_at_end g kinds cells v looks e at = subst (λ w. AreExpectedAt g kinds (verdict_in cells w) looks) e at

@@ -21,8 +21,9 @@
 //! file in README.md, whose rules 0 and 3 are a number and the closing parenthesis.
 //!
 //! ```
-//! let kinds = Listed(&[Kind::Rule(2), Kind::Rule(0)]);
-//! let mended = Mending::whole(alloc, tables, &[2, 0, 3, 0], &kinds).ok()?;
+//! let kinds = [Kind::Rule(2), Kind::Rule(0)];
+//! let listed = Listed { kinds: &kinds };
+//! let mended = Mending::whole(alloc, tables, &[2, 0, 3, 0], &listed).ok()?;
 //! let repair = mended.repairs().first()?;
 //! println!(rt; "at {}: {:?}", repair.fault, repair.changes).ok()
 //! // at 2: [PutIn(3)]
@@ -32,10 +33,12 @@
 mod ahead;
 mod listed;
 mod mending;
+mod origins;
 mod repair;
 mod resume;
 mod search;
 mod stacks;
 
+pub use listed::Listed;
 pub use mending::{MOST_FAULTS, Mending};
 pub use repair::{Change, Repair};

@@ -6,6 +6,7 @@ ghost use Rattle.definitions.specs.Sentences.{IsSentence, IsTreeOf};
 ghost use Rattle.definitions.specs.TreeEdits.{plain};
 ghost use Rattle.trees.specs.Cells.{tree};
 ghost use Rattle.trees.specs.declared.store.Child.{Child};
+ghost use Rattle.tables.specs.Expected.{AreExpected};
 ghost use Rattle.tables.specs.Tables.{Sets};
 ghost use Rattle.parser.specs.Parses.{IsParseOf};
 ghost use Rattle.mending.specs.Changes.{changed, passed};
@@ -14,13 +15,14 @@ ghost use Rattle.mending.specs.Mendings.{IsFirstFault, IsMendingOf};
 
 use crate::ahead::Ahead;
 use crate::listed::Listed;
+use crate::origins::Origins;
 use crate::repair::{Change, Repair};
 use crate::resume::{Gap, bases, least_gap, stack_of};
 use crate::search::Search;
 use definitions::{Kind, KindSplice};
 use parser::{Parse, Verdict};
 use std::alloc::{AllocError, Global};
-use tables::Tables;
+use tables::{Expected, Tables};
 use trees::{Kinds, NodeId, Store};
 
 /// How many faults are mended at most.
@@ -35,12 +37,22 @@ const MANY_MOVES: usize = 32768;
 /// How many moves are tried at each of the others.
 const FEW_MOVES: usize = 2048;
 
+/// The first fault of kinds: the number of the kind there, or that of the end, and what could have
+/// stood there.
+#[derive(Drop)]
+struct Fault {
+    at: usize,
+    expected: Vec<Option<usize>>,
+}
+
 /// What is done at a fault.
 #[derive(Drop)]
 struct Remedy {
     /// How many kinds before the fault are left out, which are the first changes.
     before: usize,
     changes: Vec<Change>,
+    /// What would mend it as cheaply.
+    others: Vec<Vec<Change>>,
 }
 
 /// What changes make of kinds.
@@ -80,6 +92,17 @@ fn copied<K: Kinds>(alloc: Global, kinds: &K) -> Result<Vec<Kind>, AllocError>
         copy.push(kind)?;
     }
     Ok(copy)
+}
+
+/// What may follow, as a list.
+fn listed(alloc: Global, expected: Expected<'_>) -> Result<Vec<Option<usize>>, AllocError>
+    ensures { IfOk result (λ looks. looks.items ≡ expected.entry) }
+{
+    let mut looks = Vec::new(alloc);
+    for look in expected {
+        looks.push(look)?;
+    }
+    Ok(looks)
 }
 
 /// Makes one change more of the kinds.
@@ -136,6 +159,25 @@ fn left_out(alloc: Global, count: usize) -> Result<Vec<Change>, AllocError>
     Ok(changes)
 }
 
+/// What makes the first of these changes; the others mend the fault as cheaply.
+fn few_changes(alloc: Global, repairs: Vec<Vec<Change>>) -> Result<Option<Remedy>, AllocError>
+    ensures { IfOk result (λ found. IfSome found (λ remedy. remedy.before ≡ 0)) }
+{
+    let mut repairs = repairs.into_iter();
+    let Some(changes) = repairs.next() else {
+        return Ok(None);
+    };
+    let mut others = Vec::new(alloc);
+    for other in repairs {
+        others.push(other)?;
+    }
+    Ok(Some(Remedy {
+        before: 0,
+        changes,
+        others,
+    }))
+}
+
 /// What leaves a gap; nothing where it has no kinds.
 fn gap_remedy(alloc: Global, gap: Gap) -> Result<Option<Remedy>, AllocError>
     ensures { IfOk result (λ found. IfSome found (λ remedy.
@@ -148,6 +190,7 @@ fn gap_remedy(alloc: Global, gap: Gap) -> Result<Option<Remedy>, AllocError>
     Ok(Some(Remedy {
         before: gap.before,
         changes: left_out(alloc, count)?,
+        others: Vec::new(alloc),
     }))
 }
 
@@ -223,25 +266,31 @@ impl Mending {
         ensures { (kinds : List TokenKind) → IsMendingOf tables.now kinds self.old
             → IfOk result (λ _. IsMendingOf tables.now kinds self.new) }
     {
-        let Some(fault) = self.fault() else {
+        let Some(fault) = self.fault(alloc, tables)? else {
             return Ok(false);
         };
-        match self.remedy(alloc, tables, ranks, fault)? {
+        match self.remedy(alloc, tables, ranks, fault.at)? {
             Some(remedy) => self.apply(alloc, tables, fault, remedy),
             None => Ok(false),
         }
     }
 
-    /// The number of the kind at the first fault of the copy, or that of the end.
-    fn fault(&self) -> Option<usize>
-        ensures { (t : Sets) → IsParseOf t self.now.copy.items self.now.store self.now.parse
-            → IfSome result (IsFirstFault t.grammar self.now.copy.items) }
+    /// The first fault of the copy, if it has one.
+    fn fault(&self, alloc: Global, tables: &Tables) -> Result<Option<Fault>, AllocError>
+        requires { IsParseOf tables.now self.now.copy.items self.now.store self.now.parse }
+        ensures first { IfOk result (λ found. IfSome found (λ fault.
+            IsFirstFault tables.now.grammar self.now.copy.items fault.at)) }
+        ensures expected { IfOk result (λ found. IfSome found (λ fault.
+            AreExpected tables.now.grammar (take fault.at self.now.copy.items)
+            fault.expected.items)) }
     {
-        match self.parse.verdict() {
-            Verdict::Tree(_) => None,
-            Verdict::FaultAt(k) => Some(k),
-            Verdict::FaultAtEnd => Some(self.copy.len()),
-        }
+        let at = match self.parse.verdict() {
+            Verdict::Tree(_) => return Ok(None),
+            Verdict::FaultAt(k) => k,
+            Verdict::FaultAtEnd => self.copy.len(),
+        };
+        let expected = listed(alloc, self.parse.expected(tables))?;
+        Ok(Some(Fault { at, expected }))
     }
 
     /// What mends a fault. None where nothing is left that could be left out.
@@ -272,8 +321,10 @@ impl Mending {
         };
         ahead.stacks.allow(moves);
         let mut search = Search::new(alloc, ahead, ranks, stack)?;
-        if let Some(changes) = search.run()? {
-            return Ok(Some(Remedy { before: 0, changes }));
+        if let Some(repairs) = search.run()?
+            && let Some(remedy) = few_changes(alloc, repairs)?
+        {
+            return Ok(Some(remedy));
         }
         search.ahead.stacks.allow(moves);
         let bases = bases(alloc, stack, &trees, fault.saturating_sub(self.done))?;
@@ -286,11 +337,13 @@ impl Mending {
         &mut self,
         alloc: Global,
         tables: &Tables,
-        fault: usize,
+        fault: Fault,
         remedy: Remedy,
     ) -> Result<bool, AllocError>
         requires mending { (kinds : List TokenKind) × IsMendingOf tables.now kinds self.old }
-        requires fault { IsFirstFault tables.now.grammar self.old.copy.items fault }
+        requires fault { IsFirstFault tables.now.grammar self.old.copy.items fault.at }
+        requires expected { AreExpected tables.now.grammar (take fault.at self.old.copy.items)
+            fault.expected.items }
         requires covers { remedy.before ≤ passed remedy.changes.items }
         ensures { (kinds : List TokenKind) → IsMendingOf tables.now kinds self.old
             → IfOk result (λ _. IsMendingOf tables.now kinds self.new) }
@@ -313,19 +366,23 @@ impl Mending {
     }
 
     /// The repair that this is, unless it changes a kind that is mended already.
-    fn repair(&self, fault: usize, remedy: Remedy) -> Option<Repair>
+    fn repair(&self, fault: Fault, remedy: Remedy) -> Option<Repair>
         requires covers { remedy.before ≤ passed remedy.changes.items }
-        ensures places { IfSome result (λ r. (r.fault ≡ fault) × (r.at + remedy.before ≡ fault)
+        ensures fault { IfSome result (λ r.
+            (r.fault ≡ fault.at) × (r.expected ≡ fault.expected)) }
+        ensures places { IfSome result (λ r. (r.at + remedy.before ≡ fault.at)
             × (self.now.done ≤ r.at) × (r.from + self.now.done ≡ self.now.from + r.at)) }
         ensures changes { IfSome result (λ r. r.changes ≡ remedy.changes) }
     {
-        let at = fault.checked_sub(remedy.before)?;
+        let at = fault.at.checked_sub(remedy.before)?;
         let behind = at.checked_sub(self.done)?;
         Some(Repair {
-            fault,
+            fault: fault.at,
+            expected: fault.expected,
             at,
             from: self.from.checked_add(behind)?,
             changes: remedy.changes,
+            others: remedy.others,
         })
     }
 
@@ -363,6 +420,17 @@ impl Mending {
         ensures { result.now ≡ self.now.repairs.items }
     {
         &self.repairs
+    }
+
+    /// For each kind of the copy its number in what is mended; none for one that is put in. Refuses
+    /// for memory alone.
+    pub fn origins(&self, alloc: Global) -> Result<Vec<Option<usize>>, AllocError> {
+        let mut origins = Origins::new(alloc);
+        for repair in &self.repairs {
+            origins.pass(repair.from)?;
+            origins.change(&repair.changes)?;
+        }
+        origins.fill(self.copy.len())
     }
 
     /// The kinds of the copy.

@@ -17,6 +17,8 @@ pub enum Change {
 pub struct Repair {
     /// The number of the first kind with which no sentence goes on, or that of the end.
     pub fault: usize,
+    /// What could have stood there: the token rules in file order, and then the end.
+    pub expected: Vec<Option<usize>>,
     /// The number of the kind from which on there are changes: the fault's, or an earlier one
     /// where kinds are left out up to where something begins anew.
     pub at: usize,
@@ -24,4 +26,6 @@ pub struct Repair {
     pub from: usize,
     /// What is done from there on.
     pub changes: Vec<Change>,
+    /// What would mend it as cheaply, from the fault on.
+    pub others: Vec<Vec<Change>>,
 }

@@ -22,6 +22,9 @@ const LATER: usize = 1;
 /// How many places are tried.
 const MOST_PLACES: usize = 8192;
 
+/// How many repairs are found at most.
+const MOST_REPAIRS: usize = 8;
+
 /// The rank of leaving a kind out, and of what isn't ranked.
 const LEFT_OUT: usize = 1;
 
@@ -45,6 +48,9 @@ struct Place {
 /// How good a place is.
 #[derive(Clone, Copy)]
 struct Rating {
+    /// How many kinds are put in and left out.
+    changes: usize,
+    /// These, and what a fault behind them costs.
     cost: usize,
     /// The number of the first kind with which it doesn't go on.
     reach: usize,
@@ -76,6 +82,8 @@ pub struct Search<'a> {
     places: Vec<Place>,
     /// The stack of each place, and how many kinds are passed there.
     seen: IndexSet<(usize, usize)>,
+    /// The places from where enough kinds go on.
+    found: Vec<Rating>,
     best: Option<Rating>,
 }
 
@@ -102,6 +110,7 @@ impl<'a> Search<'a> {
             ranks,
             places,
             seen: IndexSet::new(alloc),
+            found: Vec::new(alloc),
             best: None,
         })
     }
@@ -177,8 +186,7 @@ impl<'a> Search<'a> {
         Ok(())
     }
 
-    /// Takes a place, to which so many changes lead, for the best one, if enough kinds go on from
-    /// there and it is better.
+    /// Rates a place, to which so many changes lead, if enough kinds go on from there.
     fn rate(&mut self, number: usize, changes: usize) -> Result<(), AllocError> {
         let Some(place) = self.places.get(number).copied() else {
             return Ok(());
@@ -195,11 +203,13 @@ impl<'a> Search<'a> {
             SOON
         };
         let rating = Rating {
+            changes,
             cost: changes.saturating_add(more),
             reach,
             rank: place.rank,
             place: number,
         };
+        self.found.push(rating)?;
         match self.best {
             Some(best) if !rating.is_better(best) => {}
             _ => self.best = Some(rating),
@@ -241,10 +251,40 @@ impl<'a> Search<'a> {
         Ok(changes)
     }
 
+    /// The best of the places that are found, to which so many changes lead, but for these places.
+    fn next_best(&self, changes: usize, but: &[usize]) -> Option<Rating> {
+        let mut next: Option<Rating> = None;
+        for rating in &self.found {
+            if rating.changes != changes || but.contains(&rating.place) {
+                continue;
+            }
+            match next {
+                Some(best) if !rating.is_better(best) => {}
+                _ => next = Some(*rating),
+            }
+        }
+        next
+    }
+
+    /// The changes that lead to the best place, and then to others with as many changes.
+    fn repairs(&self, best: Rating) -> Result<Vec<Vec<Change>>, AllocError> {
+        let mut repairs = Vec::new(self.alloc);
+        let mut taken = Vec::new(self.alloc);
+        for _ in 0..MOST_REPAIRS {
+            let Some(next) = self.next_best(best.changes, &taken) else {
+                break;
+            };
+            taken.push(next.place)?;
+            repairs.push(self.changes(next.place)?)?;
+        }
+        Ok(repairs)
+    }
+
     /// The cheapest changes after which enough kinds go on, where a fault that comes behind costs
     /// too; of these the ones with which the most kinds go on, then those of the least rank, and
     /// then the first ones, where leaving out comes before putting in, and that in file order.
-    pub fn run(&mut self) -> Result<Option<Vec<Change>>, AllocError> {
+    /// They come first, and behind them others of as many changes, the best first, eight in all.
+    pub fn run(&mut self) -> Result<Option<Vec<Vec<Change>>>, AllocError> {
         let mut from = 0;
         for changes in 1..=MOST_CHANGES {
             if let Some(best) = self.best
@@ -257,7 +297,7 @@ impl<'a> Search<'a> {
             from = to;
         }
         match self.best {
-            Some(best) => Ok(Some(self.changes(best.place)?)),
+            Some(best) => Ok(Some(self.repairs(best)?)),
             None => Ok(None),
         }
     }
