@@ -12,7 +12,10 @@ use tables::Tables;
 pub const ENOUGH: usize = 3;
 
 /// How many kinds are looked at.
-const LOOK: usize = 1024;
+const LOOK: usize = 256;
+
+/// Of how many kinds it is remembered for one how far the kinds from it on go on.
+const STEP: usize = 16;
 
 /// The kinds from a fault on, as many as are looked at, and the stacks with which they are read.
 #[derive(Drop)]
@@ -69,12 +72,14 @@ impl<'a> Ahead<'a> {
     fn walk(&mut self, from: Walk, passed: &mut Vec<(usize, usize)>) -> Result<Walk, AllocError> {
         let mut at = from;
         for number in from.number..self.kinds.len() {
-            let place = (at.stack, number);
-            if let Some(known) = self.reaches.get(&place) {
-                at.reach = Some(*known);
-                return Ok(at);
+            if number % STEP == 0 {
+                let place = (at.stack, number);
+                if let Some(known) = self.reaches.get(&place) {
+                    at.reach = Some(*known);
+                    return Ok(at);
+                }
+                passed.push(place)?;
             }
-            passed.push(place)?;
             let Some(next) = self.read(at.stack, number)? else {
                 at.reach = Some(number);
                 return Ok(at);

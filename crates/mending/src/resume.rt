@@ -11,6 +11,15 @@ use trees::{Child, Store};
 /// Below how many trees a stack is looked at.
 const MOST_TREES: usize = 64;
 
+/// How many kinds have to go on behind a gap so that a fault behind them is another one.
+const NEAR: usize = 32;
+
+/// As how many kinds more a fault counts that comes sooner.
+const SOON: usize = 24;
+
+/// As how many kinds more another fault counts.
+const LATER: usize = 4;
+
 /// What is left out at a fault.
 #[derive(Clone, Copy)]
 pub struct Gap {
@@ -83,42 +92,68 @@ pub fn bases(
     Ok(bases)
 }
 
-/// The least gap with so many kinds behind the fault, if it is less than `least` and enough kinds
+/// A gap, and what it costs.
+#[derive(Clone, Copy)]
+struct Priced {
+    gap: Gap,
+    cost: usize,
+}
+
+/// What a gap costs: its kinds, and more where a fault comes behind it. None where not enough kinds
 /// go on.
+fn cost(ahead: &mut Ahead<'_>, base: Base, behind: usize) -> Result<Option<usize>, AllocError> {
+    let reach = ahead.reach(base.stack, behind)?;
+    if !ahead.is_enough(behind, reach) {
+        return Ok(None);
+    }
+    let more = if reach == usize::MAX {
+        0
+    } else if behind.saturating_add(NEAR) <= reach {
+        LATER
+    } else {
+        SOON
+    };
+    Ok(Some(base.before.saturating_add(behind).saturating_add(more)))
+}
+
+/// The cheaper one of the cheapest gap with so many kinds behind the fault, and of this one.
 fn gap_behind(
     ahead: &mut Ahead<'_>,
     bases: &[Base],
     behind: usize,
-    least: usize,
-) -> Result<Option<Gap>, AllocError> {
+    least: Priced,
+) -> Result<Priced, AllocError> {
+    let mut least = least;
     for base in bases {
         let before = base.before;
-        if least <= before.saturating_add(behind) {
-            return Ok(None);
-        }
-        let reach = ahead.reach(base.stack, behind)?;
-        if ahead.is_enough(behind, reach) {
-            return Ok(Some(Gap { before, behind }));
-        }
-    }
-    Ok(None)
-}
-
-/// The least gap after which enough kinds go on; all kinds that are looked at where there is none.
-pub fn least_gap(ahead: &mut Ahead<'_>, bases: &[Base]) -> Result<Gap, AllocError> {
-    let mut least = usize::MAX;
-    let mut found = Gap {
-        before: 0,
-        behind: ahead.kinds.len(),
-    };
-    for behind in 0..=ahead.kinds.len() {
-        if least <= behind {
+        if least.cost <= before.saturating_add(behind) {
             break;
         }
-        if let Some(gap) = gap_behind(ahead, bases, behind, least)? {
-            least = gap.before.saturating_add(behind);
-            found = gap;
+        if let Some(cost) = cost(ahead, *base, behind)?
+            && cost < least.cost
+        {
+            let gap = Gap { before, behind };
+            least = Priced { gap, cost };
         }
     }
-    Ok(found)
+    Ok(least)
+}
+
+/// The cheapest gap after which enough kinds go on; all kinds that are looked at where there is
+/// none. A fault behind it costs as much as a few kinds, and more where it comes soon.
+pub fn least_gap(ahead: &mut Ahead<'_>, bases: &[Base]) -> Result<Gap, AllocError> {
+    let mut least = Priced {
+        gap: Gap {
+            before: 0,
+            behind: ahead.kinds.len(),
+        },
+        cost: usize::MAX,
+    };
+    for behind in 0..=ahead.kinds.len() {
+        if least.cost <= behind {
+            break;
+        }
+        least = gap_behind(ahead, bases, behind, least)?;
+    }
+    Ok(least.gap)
 }

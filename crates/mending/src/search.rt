@@ -13,14 +13,20 @@ const MOST_CHANGES: usize = 4;
 /// How many kinds have to go on after a change so that a fault behind them is another one.
 const NEAR: usize = 32;
 
+/// How many kinds have to go on, where the moves run out before all changes are tried.
+const FEW: usize = 8;
+
 /// How many changes a fault costs that comes sooner, since it mostly follows from the changes.
 const SOON: usize = 3;
 
 /// How many changes another fault costs.
 const LATER: usize = 1;
 
-/// How many places are tried.
-const MOST_PLACES: usize = 8192;
+/// How many places with as many changes are tried.
+const MOST_PLACES: usize = 512;
+
+/// The highest sum of ranks by which places are told apart.
+const MOST_RANK: usize = 16;
 
 /// How many repairs are found at most.
 const MOST_REPAIRS: usize = 8;
@@ -52,6 +58,8 @@ struct Rating {
     changes: usize,
     /// These, and what a fault behind them costs.
     cost: usize,
+    /// How many of the kinds ahead are passed there.
+    passed: usize,
     /// The number of the first kind with which it doesn't go on.
     reach: usize,
     rank: usize,
@@ -60,6 +68,11 @@ struct Rating {
 }
 
 impl Rating {
+    /// Whether a fault comes so soon that another way is better, where not all are tried.
+    fn is_doubtful(self) -> bool {
+        self.reach < self.passed.saturating_add(FEW)
+    }
+
     /// Whether it is better than another one.
     fn is_better(self, other: Rating) -> bool {
         if self.cost != other.cost {
@@ -80,6 +93,8 @@ pub struct Search<'a> {
     /// The rank of each token rule, of which low ones are put in rather than high ones.
     ranks: &'a [u8],
     places: Vec<Place>,
+    /// How many places there may be.
+    most: usize,
     /// The stack of each place, and how many kinds are passed there.
     seen: IndexSet<(usize, usize)>,
     /// The places from where enough kinds go on.
@@ -109,6 +124,7 @@ impl<'a> Search<'a> {
             ahead,
             ranks,
             places,
+            most: 0,
             seen: IndexSet::new(alloc),
             found: Vec::new(alloc),
             best: None,
@@ -117,8 +133,7 @@ impl<'a> Search<'a> {
 
     /// Adds a place, unless the same is there, reached by no more changes.
     fn add(&mut self, place: Place) -> Result<(), AllocError> {
-        let is_new = self.seen.insert((place.stack, place.passed))?;
-        if is_new && self.places.len() < MOST_PLACES {
+        if self.places.len() < self.most && self.seen.insert((place.stack, place.passed))? {
             self.places.push(place)?;
         }
         Ok(())
@@ -205,6 +220,7 @@ impl<'a> Search<'a> {
         let rating = Rating {
             changes,
             cost: changes.saturating_add(more),
+            passed: place.passed,
             reach,
             rank: place.rank,
             place: number,
@@ -217,12 +233,24 @@ impl<'a> Search<'a> {
         Ok(())
     }
 
+    /// Adds the places to which one change more leads than to those of a rank between two numbers.
+    fn expand_rank(&mut self, from: usize, to: usize, rank: usize) -> Result<(), AllocError> {
+        for number in from..to {
+            match self.places.get(number) {
+                Some(place) if place.rank.min(MOST_RANK) == rank => self.expand(number)?,
+                _ => {}
+            }
+        }
+        Ok(())
+    }
+
     /// Adds and rates the places to which so many changes lead, one more than to those from number
-    /// `from` on.
+    /// `from` on, of which those of low ranks come first.
     fn go_on(&mut self, from: usize, changes: usize) -> Result<(), AllocError> {
         let to = self.places.len();
-        for number in from..to {
-            self.expand(number)?;
+        self.most = to.saturating_add(MOST_PLACES);
+        for rank in 0..=MOST_RANK {
+            self.expand_rank(from, to, rank)?;
         }
         for number in to..self.places.len() {
             self.rate(number, changes)?;
@@ -284,6 +312,8 @@ impl<'a> Search<'a> {
     /// too; of these the ones with which the most kinds go on, then those of the least rank, and
     /// then the first ones, where leaving out comes before putting in, and that in file order.
     /// They come first, and behind them others of as many changes, the best first, eight in all.
+    /// None where none are found, or where the moves run out before all are tried and a fault comes
+    /// right behind the best ones.
     pub fn run(&mut self) -> Result<Option<Vec<Vec<Change>>>, AllocError> {
         let mut from = 0;
         for changes in 1..=MOST_CHANGES {
@@ -297,8 +327,10 @@ impl<'a> Search<'a> {
             from = to;
         }
         match self.best {
-            Some(best) => Ok(Some(self.repairs(best)?)),
-            None => Ok(None),
+            Some(best) if !best.is_doubtful() || !self.ahead.stacks.is_spent() => Ok(Some(
+                self.repairs(best)?,
+            )),
+            _ => Ok(None),
         }
     }
 }

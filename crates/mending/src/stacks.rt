@@ -7,7 +7,7 @@ ghost use Rattle.definitions.specs.Items.{HasMove, Reduce as ReduceMove};
 ghost use Rattle.mending.specs.Stacks.{IsOnStack, IsReached};
 
 use definitions::Kind;
-use indexmap::IndexSet;
+use indexmap::IndexMap;
 use std::alloc::{AllocError, Global};
 use std::marker::Model;
 use tables::{Expected, Move, Tables};
@@ -20,16 +20,42 @@ struct Level {
     below: usize,
 }
 
+/// Through how many of the stacks right on a stack one is looked for; behind these, by its hash.
+const MOST_LINKS: usize = 16;
+
+/// Which stacks lie right on a stack, by number. There is none with number 0.
+#[derive(Clone, Copy)]
+struct Links {
+    /// The last one that came.
+    last: usize,
+    /// The one that came before this stack on the same one.
+    before: usize,
+}
+
 /// Stacks by number. Equal ones have one number, and the one of no kinds has 0.
 #[derive(Drop)]
 pub struct Stacks<'a> {
     tables: &'a Tables,
     /// The topmost state of each stack.
     levels: Vec<Level>,
-    /// What lies below each stack but the first, and its state.
-    known: IndexSet<(usize, usize)>,
+    links: Vec<Links>,
+    /// The number of each stack but the first, by what lies below it and its state.
+    known: IndexMap<(usize, usize), usize>,
     /// How many moves may be made yet.
     left: usize,
+}
+
+/// Adds the links of a stack of this number right on another one.
+fn link(links: &mut Vec<Links>, below: usize, number: usize) -> Result<(), AllocError> {
+    let before = match links.get(below) {
+        Some(links) => links.last,
+        None => 0,
+    };
+    links.push(Links { last: 0, before })?;
+    if let Some(links) = links.get_mut(below) {
+        links.last = number;
+    }
+    Ok(())
 }
 
 impl<'a> Model for Stacks<'a> {
@@ -53,10 +79,13 @@ impl<'a> Stacks<'a> {
             state: tables.start(),
             below: 0,
         })?;
+        let mut links = Vec::new(alloc);
+        links.push(Links { last: 0, before: 0 })?;
         Ok(Stacks {
             tables,
             levels,
-            known: IndexSet::new(alloc),
+            links,
+            known: IndexMap::new(alloc),
             left: 0,
         })
     }
@@ -66,6 +95,11 @@ impl<'a> Stacks<'a> {
         ensures { self.new ≡ self.old }
     {
         self.left = moves;
+    }
+
+    /// Whether no moves may be made any more.
+    pub fn is_spent(&self) -> bool {
+        self.left == 0
     }
 
     /// The topmost level of a stack; that of no kinds where no stack has the number.
@@ -81,16 +115,42 @@ impl<'a> Stacks<'a> {
         }
     }
 
+    /// The links of a stack.
+    fn links(&self, stack: usize) -> Links {
+        match self.links.get(stack) {
+            Some(links) => *links,
+            None => Links { last: 0, before: 0 },
+        }
+    }
+
+    /// The number of the stack with one state more, if there is one.
+    fn find(&self, below: usize, state: usize) -> Option<usize> {
+        let mut at = self.links(below).last;
+        for _ in 0..MOST_LINKS {
+            if at == 0 {
+                return None;
+            }
+            if self.level(at).state == state {
+                return Some(at);
+            }
+            at = self.links(at).before;
+        }
+        self.known.get(&(below, state)).copied()
+    }
+
     /// The number of the stack with one state more.
     fn push(&mut self, below: usize, state: usize) -> Result<usize, AllocError>
         requires { IsReached self.old state }
         ensures { self.new ≡ self.old }
     {
-        let (index, is_new) = self.known.insert_full((below, state))?;
-        if is_new {
-            self.levels.push(Level { state, below })?;
+        if let Some(found) = self.find(below, state) {
+            return Ok(found);
         }
-        Ok(index.saturating_add(1))
+        let number = self.levels.len();
+        self.known.insert((below, state), number)?;
+        link(&mut self.links, below, number)?;
+        self.levels.push(Level { state, below })?;
+        Ok(number)
     }
 
     /// The stack below so many states.
