@@ -1,4 +1,4 @@
-//! Mended copies of worked kinds of sums. `tests/mending` has real texts.
+//! Mended copies of worked kinds of sums. `bench/mending` has real texts.
 
 ghost use Rattle.std.specs.Prelude.{⊤};
 
@@ -110,6 +110,17 @@ fn faults_close_together_are_mended_as_one(rt: HostRuntime) {
 fn what_no_few_changes_mend_is_left_out(rt: HostRuntime) {
     let kinds = [NUM, RP, RP, RP, RP, RP, RP, PLUS, NUM, PLUS, NUM];
     let changes = [Change::LeaveOut; 6];
+    let copy = [NUM, PLUS, NUM, PLUS, NUM];
+    let tables = sums(&rt, rt.alloc());
+    assert_mended(&rt, rt.alloc(), &tables, &(&kinds, 1, &changes, &copy));
+}
+
+#[test]
+fn a_fault_soon_behind_costs_more_than_a_few_kinds(rt: HostRuntime) {
+    let kinds = [
+        NUM, RP, RP, RP, RP, RP, RP, PLUS, NUM, PLUS, RP, PLUS, NUM, PLUS, NUM,
+    ];
+    let changes = [Change::LeaveOut; 10];
     let copy = [NUM, PLUS, NUM, PLUS, NUM];
     let tables = sums(&rt, rt.alloc());
     assert_mended(&rt, rt.alloc(), &tables, &(&kinds, 1, &changes, &copy));
