@@ -1,28 +1,32 @@
 -- What the proofs of this crate cite of definitions, of types and of other crates, passed on from one place. Declares nothing.
-pub use Rattle.std.proofs.Common.{◌&&◌, ◌++◌, ◌+◌, ◌-◌, ◌*◌, ◌^◌, ◌<◌, ◌≤◌, ◌≡◌, ◌≢◌, ◌∙◌, ◌∷◌, ◌⊎◌, Bool, List, None, Option, Some, [], ap, append_assoc, arith, cond, drop, false, filter, inl, inr, get_or, length, map, min, refl, subst, suc, sym, take, true, zero, ℕ}
-pub use Rattle.std.specs.Prelude.{◌==◌, ◌%◌, OnOk, nat_le, nat_lt}
-pub use Rattle.std.specs.List.{range_with_len}
-pub use Rattle.std.proofs.lemmas.Bool.{cases_lt, eq-eqb, eqb-true, le-leb, le-ltb, leb-true, lt-leb, lt-ltb, ltb-false, ltb-true}
-pub use Rattle.std.proofs.lemmas.List.{append-nil, drop-drop, get_or-drop, get_or-take, length-drop, length-take, map-append, take-append-drop, take-take, take_all}
+pub use Rattle.std.proofs.Common.{All, ◌&&◌, ◌++◌, ◌+◌, ◌-◌, ◌*◌, ◌^◌, ◌<◌, ◌≤◌, ◌≡◌, ◌≢◌, ◌∙◌, ◌∷◌, ◌⊎◌, Bool, List, None, Option, Some, [], ap, append_assoc, arith, cond, drop, false, filter, inl, inr, get_or, length, length-append, map, min, refl, subst, suc, sym, take, true, zero, ℕ}
+pub use Rattle.std.specs.Prelude.{◌==◌, ◌%◌, ◌||◌, OnOk, nat_le, nat_lt, not, slice_index, slice_index_or}
+pub use Rattle.std.specs.List.{prefix_len, range_with_len}
+pub use Rattle.std.proofs.lemmas.Bool.{cases_Bool, cases_lt, eq-eqb, eqb-true, false≢true, le-leb, le-ltb, leb-true, lt-leb, lt-ltb, ltb-false, ltb-true, ne_eqb}
+pub use Rattle.std.proofs.lemmas.List.{append-nil, drop-drop, drop_more, get_or_append_left, get_or_default, get_or-drop, get_or-take, length-drop, length-take, map-append, take-append-drop, take-take, take_all}
 pub use Rattle.std.proofs.lemmas.Result.{on_ok_weaker}
-pub use Rattle.std.proofs.Math.Seq.{drop-cons}
+pub use Rattle.std.proofs.Math.Seq.{drop-cons, get_or-append_seam, take-add}
+pub use Rattle.std.proofs.lemmas.List.Folds.{length-prefix_len}
+pub use Rattle.std.proofs.lemmas.Str.{len_utf8_ascii, len_utf8_bounds}
 pub use Rattle.std.proofs.lemmas.List.Elements.{filter-append}
 pub use Rattle.std.proofs.lemmas.List.FromFn.{filter_of_map_range_with_len_more}
-pub use Rattle.std.proofs.lemmas.List.Sums.{count_by-le-length, sum_by-take-le}
-pub use Rattle.definitions.proofs.OffsetOfPosition.{ended, ended-cons}
-pub use Rattle.definitions.proofs.PastTheEnd.{position-min}
-pub use Rattle.definitions.proofs.PositionOfOffset.{position-of_offset}
+pub use Rattle.std.proofs.lemmas.List.Sums.{count_by-le-length, prefix_len_passes, prefix_len_stops, sum_by-append, sum_by-cons, sum_by-take-le}
+pub use Rattle.definitions.proofs.OffsetOfPosition.{ended, ended-cons, line_start-le, none_ended}
+pub use Rattle.definitions.proofs.OffsetsInLine.{in_line_end}
+pub use Rattle.definitions.proofs.PastTheEnd.{length-line_from, position-min}
+pub use Rattle.definitions.proofs.PositionOfOffset.{line_of-place, position-of_offset}
+pub use Rattle.definitions.proofs.TextLaws.{greatest-is}
 pub use Rattle.definitions.proofs.TokensLead.{chars, chars-cons}
-pub use Rattle.definitions.specs.Text.{break_ends}
-unfoldable pub use Rattle.definitions.specs.Text.{line_from, line_of, line_start, offset, position, units}
+pub use Rattle.definitions.specs.Text.{begins_with, ends_break, unit}
+unfoldable pub use Rattle.definitions.specs.Text.{break_ends, line_from, line_of, line_start, offset, position, units}
 pub use Rattle.definitions.specs.Tokens.{Token as PlainToken}
 pub use Rattle.definitions.specs.declared.Position.{Position}
 pub use Rattle.definitions.specs.declared.Unit.{Unit as Encoding}
+pub use Rattle.definitions.specs.declared.Unit.TheVariants.{Utf16, Utf32, Utf8}
 pub use Rattle.lexer.proofs.Remakes.{chars-plain, tokens_length}
 pub use Rattle.lexer.proofs.Totals.{tot, total_characters}
 pub use Rattle.lexer.specs.Tokens.{characters, kind_in, plain}
 pub use Rattle.lexer.specs.declared.sums.Sums.{Sums}
 pub use Rattle.lexer.specs.declared.sums.Token.{Token}
-pub use Rattle.text.specs.Places.{Place}
 pub use Rattle.colours.specs.Encoding.{AreEncoded, IsUpTo, not_above, not_below, part_if, start_of}
 pub use Rattle.colours.specs.Parts.{Part, colour_of, coloured_from, decoded, decoded_from, line_end, origin, part_on, parts_between, parts_in, within}

@@ -2,6 +2,8 @@ pub mod Common
 pub mod Encodings
 pub mod PositionsAscend
 pub mod CommonEnds
+pub mod NextPosition
+pub mod Stepping
 pub mod Walks
 pub mod Windows
 pub mod OutsideLines

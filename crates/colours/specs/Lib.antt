@@ -1,3 +1,4 @@
 pub mod Parts
 pub mod Deltas
 pub mod Encoding
+pub mod Steps

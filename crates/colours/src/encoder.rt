@@ -1,12 +1,12 @@
 //! The numbers of parts, one part after another.
 
-ghost use Rattle.std.specs.Prelude.{◌≡◌, ◌-◌, List, [], ◌∷◌, ◌++◌, OnOk};
-ghost use Rattle.colours.specs.Parts.{Part, line_end, origin, part_at, parts_between, parts_in};
+ghost use Rattle.std.specs.Prelude.{◌≡◌, ◌-◌, ◌≤◌, List, [], ◌∷◌, ◌++◌, OnOk};
+ghost use Rattle.colours.specs.Parts.{Part, origin, part_at, parts_between, parts_in};
 ghost use Rattle.colours.specs.Encoding.{AreEncoded, IsUpTo, part_if};
 
-use definitions::{Position, Unit};
+use crate::steps::Steps;
+use definitions::Position;
 use std::alloc::{AllocError, Global};
-use text::Text;
 
 /// The numbers of the parts so far, and where the last one starts, or the start of the text.
 #[derive(Drop)]
@@ -68,62 +68,56 @@ impl Encoder {
         self.push(Position { line, character }, end - start, colour)
     }
 
-    /// The parts of what stands between two positions, after those so far, if it has a colour.
+    /// The parts of what stands between two positions, after those so far, if it has a colour. The
+    /// walk has left the lines from the first one up to the last one.
     pub(crate) fn push_token(
         &mut self,
-        text: &Text,
-        unit: Unit,
+        steps: &Steps<'_>,
         colour: Option<u32>,
         from: Position,
         to: Position,
     ) -> Result<(), AllocError>
+        requires first { steps.now.first ≤ from.line }
+        requires ends { to.line ≤ steps.now.last }
         requires last { IsUpTo self.old.last from }
         requires ordered { IsUpTo from to }
         ensures encoded { OnOk result ((parts : List Part)
             → AreEncoded parts self.old.numbers.items self.old.last
-            → AreEncoded (parts ++ parts_in unit text.now from to colour)
+            → AreEncoded (parts ++ parts_in steps.now.unit steps.now.text from to colour)
             self.new.numbers.items self.new.last) }
         ensures last { OnOk result (IsUpTo self.new.last to) }
     {
         match colour {
-            Some(colour) => self.push_between(text, unit, colour, from, to),
+            Some(colour) => self.push_between(steps, colour, from, to),
             None => Ok(()),
         }
     }
 
-    /// The parts of what stands between two positions, after those so far.
+    /// The parts of what stands between two positions, after those so far. The walk has left the
+    /// lines from the first one up to the last one.
+    #[inline(never)]
     fn push_between(
         &mut self,
-        text: &Text,
-        unit: Unit,
+        steps: &Steps<'_>,
         colour: u32,
         from: Position,
         to: Position,
     ) -> Result<(), AllocError>
+        requires first { steps.now.first ≤ from.line }
+        requires ends { to.line ≤ steps.now.last }
         requires last { IsUpTo self.old.last from }
         requires ordered { IsUpTo from to }
         ensures encoded { OnOk result ((parts : List Part)
             → AreEncoded parts self.old.numbers.items self.old.last
-            → AreEncoded (parts ++ parts_between unit text.now colour from to)
+            → AreEncoded (parts ++ parts_between steps.now.unit steps.now.text colour from to)
             self.new.numbers.items self.new.last) }
         ensures last { OnOk result (IsUpTo self.new.last to) }
     {
         let mut start = from.character;
         for line in from.line..to.line {
-            self.push_on(line, start, line_end(text, unit, line), colour)?;
+            self.push_on(line, start, steps.end_of(line), colour)?;
             start = 0;
         }
         self.push_on(to.line, start, to.character, colour)
     }
-}
-
-/// How many units a line has.
-fn line_end(text: &Text, unit: Unit, line: u32) -> u32
-    ensures { result ≡ line_end unit text.now line }
-{
-    let past = Position {
-        line,
-        character: u32::MAX,
-    };
-    text.position(unit, text.offset(unit, past)).character
 }

@@ -11,8 +11,8 @@
 //! unit.
 //!
 //! Limits: those of `docs`. `full` costs the characters and tokens of the text; `lines` a look-up
-//! of the first token, and one for each token on these lines; `delta` the numbers. In the example
-//! `language` is loaded from the grammar file in README.md.
+//! of the first token, and the characters and tokens from there up to the last one on these lines;
+//! `delta` the numbers. In the example `language` is loaded from the grammar file in README.md.
 //!
 //! ```
 //! let palette = [Some(4), Some(7)];
@@ -31,6 +31,7 @@
 mod edits;
 mod encoder;
 mod ranges;
+mod steps;
 mod whole;
 
 pub use edits::{DataEdit, delta};

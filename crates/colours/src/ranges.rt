@@ -11,6 +11,7 @@ ghost use Rattle.colours.specs.Parts.{Part, Scans, coloured, decoded, parts_in, 
 ghost use Rattle.colours.specs.Encoding.{AreEncoded, IsUpTo, not_above, not_below, start_of};
 
 use crate::encoder::Encoder;
+use crate::steps::Steps;
 use crate::whole::colour_of;
 use definitions::{Position, Unit};
 use docs::Doc;
@@ -57,19 +58,20 @@ impl Window {
     fn push(
         self,
         encoder: &mut Encoder,
-        text: &Text,
-        unit: Unit,
+        steps: &Steps<'_>,
         colour: Option<u32>,
         from: Position,
         to: Position,
     ) -> Result<(), AllocError>
+        requires first { steps.now.first ≤ from.line }
+        requires ends { to.line ≤ steps.now.last }
         requires last { IsUpTo encoder.old.last from }
         requires ordered { IsUpTo from to }
         requires begins { from.line < self.to }
         ensures encoded { OnOk result ((parts : List Part)
             → AreEncoded parts encoder.old.numbers.items encoder.old.last
             → AreEncoded
-            (parts ++ within self.from self.to (parts_in unit text.now from to colour))
+            (parts ++ within self.from self.to (parts_in steps.now.unit steps.now.text from to colour))
             encoder.new.numbers.items encoder.new.last) }
         ensures last { OnOk result (IsUpTo encoder.new.last to) }
     {
@@ -78,7 +80,7 @@ impl Window {
         if start.line > end.line {
             return Ok(());
         }
-        encoder.push_token(text, unit, colour, start, end)
+        encoder.push_token(steps, colour, start, end)
     }
 
     /// The colours of what stands on these lines.
@@ -101,17 +103,17 @@ impl Window {
         // A text is so short that no offset in it is past what `usize` counts.
         let _length = text.len();
         let mut encoder = Encoder::new(alloc);
-        let (first, mut at) = self.first(unit, text, tokens);
-        let mut start = text.position(unit, at);
+        let (first, at) = self.first(unit, text, tokens);
+        let mut steps = Steps::new(alloc, text, unit, at);
         for token in tokens.items().iter_from(first) {
+            let start = steps.position();
             if start.line >= self.to {
                 return Ok(encoder.numbers);
             }
-            at = at.saturating_add(token.length() as usize);
-            let end = text.position(unit, at);
+            steps.advance(token.length() as usize)?;
+            let end = steps.position();
             let colour = colour_of(palette, token.kind());
-            self.push(&mut encoder, text, unit, colour, start, end)?;
-            start = end;
+            self.push(&mut encoder, &steps, colour, start, end)?;
         }
         Ok(encoder.numbers)
     }
@@ -123,6 +125,7 @@ impl Window {
             × AreTokens rules text.now (map plain tokens.now.items) }
         ensures within { result.0 ≤ length tokens.now.items }
         ensures offset { result.1 ≡ characters (take result.0 tokens.now.items) }
+        ensures inside { result.1 ≤ length text.now }
         ensures above { result.1 ≤ offset unit text.now (start_of self.from) }
     {
         // A text is so short that the characters of its tokens are counted exactly.

@@ -7,6 +7,7 @@ ghost use Rattle.lexer.specs.Tokens.{plain};
 ghost use Rattle.colours.specs.Parts.{Scans, coloured, colour_of, decoded};
 
 use crate::encoder::Encoder;
+use crate::steps::Steps;
 use definitions::{Kind, Unit};
 use docs::Doc;
 use lexer::Tokens;
@@ -37,12 +38,12 @@ fn whole(
         length numbers.items ≡ 5 * length (decoded numbers.items)) }
 {
     let mut encoder = Encoder::new(alloc);
-    let mut places = text.places(unit);
+    let mut steps = Steps::new(alloc, text, unit, 0);
     for token in tokens.items().iter_from(0) {
-        let start = places.position();
-        places.advance(token.length() as usize);
-        let end = places.position();
-        encoder.push_token(text, unit, colour_of(palette, token.kind()), start, end)?;
+        let start = steps.position();
+        steps.advance(token.length() as usize)?;
+        let end = steps.position();
+        encoder.push_token(&steps, colour_of(palette, token.kind()), start, end)?;
     }
     Ok(encoder.numbers)
 }
