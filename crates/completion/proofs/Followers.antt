@@ -1,5 +1,5 @@
 -- What may follow, from what stands before an offset.
-use Rattle.completion.proofs.Common.{◌++◌, ◌≡◌, ◌∙◌, ℕ, All, Bool, List, [], Option, None, Some, ap, append-nil, false, filter, filter-append, map, map-map, not, option_to_list, refl, subst, sym, true, take, All-take, AreBefore, AreExpected, Expected, FileGrammar, Goes_into, Kind, MayFollow, Token, in_file_order, is_skipped, kind_in, kinds_plain, plain, plain_all, significant_kinds, unskipped}
+use Rattle.completion.proofs.Common.{◌++◌, ◌≡◌, ◌∙◌, ℕ, All, Bool, List, [], Option, ap, false, filter-append, map, map-map, not, option_to_list, refl, subst, sym, take, All-take, AreBefore, AreExpected, Expected, FileGrammar, Goes_into, Kind, MayFollow, Token, in_file_order, is_skipped, kind_in, kinds_plain, plain, significant_kinds, unskipped}
 
 unskipped-append : (skips : List Bool) (xs ys : List Kind) → unskipped skips (xs ++ ys) ≡ unskipped skips xs ++ unskipped skips ys
 unskipped-append skips xs ys = filter-append (λ k. not (is_skipped skips k)) xs ys

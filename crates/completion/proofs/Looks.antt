@@ -1,5 +1,5 @@
 -- The offers of what is expected, the end among it.
-use Rattle.completion.proofs.Common.{◌++◌, ◌≡◌, ◌∷◌, ◌∙◌, ℕ, Bool, true, false, List, [], Option, Some, None, ap, append-nil, flat_map, map, refl, in_file_order, offer_of, RuleText}
+use Rattle.completion.proofs.Common.{◌++◌, ◌≡◌, ◌∷◌, ℕ, Bool, true, false, List, [], Option, Some, None, ap, flat_map, refl, in_file_order, offer_of, RuleText}
 
 -- the offer of what is expected: none of the end
 abbrev pub of_look : List (Option RuleText) → List ℕ → Option ℕ → List (ℕ × List ℕ)

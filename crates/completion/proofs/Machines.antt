@@ -1,5 +1,5 @@
 -- What a move of the machine makes of its states.
-use Rattle.completion.proofs.Common.{◌++◌, ◌+◌, ◌≤◌, ◌≡◌, ◌∙◌, ◌∷◌, ℕ, List, [], Option, Some, None, ap, arith, false, get_or, length, length-append, refl, subst, sym, take, ◌-◌, append-nil, HasMove, Move, Accept, Reduce, Shift, IsViable, IsSentence, Branch, Forest, Grammar, HasProduction, HaveRoots, Leaf, Tree, forest, trees, Kind, TokenRule, Symbol, Nonterminal, Terminal, run_on, states_push, state_under, states_after, HasStates, AreExpected, IsAccepted, IsStateOf, Sets, goto_there, length-roots, roots-append, run_join, Handle, accept_stack, handle, roots-forest, roots_unique, stuck_at_kind, viable_prefix, IsStackAfter, Reduced, Reduces, Run, Shifts, StackHasMove, Stay, AreStatesAfter, AreStatesOn}
+use Rattle.completion.proofs.Common.{◌++◌, ◌+◌, ◌≤◌, ◌≡◌, ◌∙◌, ◌∷◌, ℕ, List, [], Some, ap, arith, false, get_or, length, length-append, refl, subst, sym, take, ◌-◌, append-nil, HasMove, Move, Accept, Reduce, Shift, IsViable, IsSentence, Branch, Grammar, HasProduction, HaveRoots, Leaf, Tree, forest, trees, Kind, TokenRule, Symbol, Nonterminal, Terminal, run_on, states_push, state_under, states_after, HasStates, AreExpected, IsAccepted, IsStateOf, Sets, length-roots, roots-append, run_join, Handle, accept_stack, handle, roots-forest, roots_unique, stuck_at_kind, viable_prefix, IsStackAfter, Reduced, Reduces, Run, Shifts, Stay, AreStatesAfter, AreStatesOn}
 
 -- before any kind
 pub states_first : (t : Sets) (start : ℕ) → IsStateOf t [] start → AreStatesAfter t [] (start ∷ [])

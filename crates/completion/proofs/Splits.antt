@@ -1,5 +1,5 @@
 -- The token that stands before an offset, and its text with a character typed into it.
-use Rattle.completion.proofs.Common.{◌++◌, ◌+◌, ◌-◌, ◌<◌, ◌≤◌, ◌≡◌, ◌∙◌, ◌∷◌, ℕ, zero, suc, IsTrue, List, MatchOption, [], None, Option, Some, is_some, option_to_list, ap, append_assoc, arith, cases_lt, drop, false, inl, inr, length, length-drop, length-take, map, map-append, map-map, nat_lt, refl, subst, sum_by-take-le, sym, take, take_all, true, slice_range, slice_set, slice_get, chars, chars-cons, chars-plain, characters, characters-more, drop-drop, drop-take, take-take, EndsAt, Expression, IsLetter, IsPiece, IsPiece-inside, Kind, PlainToken, Sums, Token, kind_in, ltb-false, ltb-true, plain, plain-take, tot, total_characters, typed, head-eq_of_cons-eq, tail-eq_of_cons-eq}
+use Rattle.completion.proofs.Common.{◌++◌, ◌+◌, ◌-◌, ◌<◌, ◌≤◌, ◌≡◌, ◌∙◌, ◌∷◌, ℕ, zero, suc, IsTrue, List, MatchOption, [], None, Option, Some, is_some, option_to_list, ap, arith, cases_lt, drop, false, inl, inr, length, length-drop, length-take, map, map-append, map-map, nat_lt, refl, subst, sum_by-take-le, sym, take, take_all, true, slice_range, slice_set, slice_get, chars, chars-cons, chars-plain, characters, characters-more, drop-drop, drop-take, take-take, EndsAt, Expression, IsLetter, IsPiece, IsPiece-inside, Kind, PlainToken, Sums, Token, kind_in, ltb-false, ltb-true, plain, plain-take, tot, total_characters, typed, head-eq_of_cons-eq, tail-eq_of_cons-eq}
 use Rattle.completion.proofs.Steps.{take_here}
 
 abbrev kind_of_plain : PlainToken → Kind

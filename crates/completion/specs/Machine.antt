@@ -1,5 +1,5 @@
 -- The states of the LR(1) machine after the kinds that it has read.
-use Rattle.std.specs.Prelude.{ℕ, List, [], Option, Some}
+use Rattle.std.specs.Prelude.{ℕ, List, [], Some}
 use Rattle.definitions.specs.declared.Kind.{Kind}
 use Rattle.definitions.specs.Trees.{Tree}
 use Rattle.parser.specs.Machine.{HasStates}

@@ -1,5 +1,5 @@
-use Rattle.completion.proofs.Common.{◌++◌, ◌≡◌, ◌∙◌, ◌∷◌, [], ap, arith, drop, encode_utf8, encode_utf8_all, slice_range, sym}
-use Rattle.completion.proofs.Steps.{encode-push, none_here, slice_more, tail_here}
+use Rattle.completion.proofs.Common.{◌++◌, ◌≡◌, ◌∙◌, ◌∷◌, ap, drop, encode_utf8, encode_utf8_all, slice_range, sym}
+use Rattle.completion.proofs.Steps.{encode-push, slice_more, tail_here}
 use Rattle.completion.proofs.words.text_between.Goals as goal
 
 pub loop-preserved : goal.loop-preserved

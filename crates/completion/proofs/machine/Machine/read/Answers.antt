@@ -1,4 +1,4 @@
-use Rattle.completion.proofs.Common.{◌≡◌, ◌∙◌, Option, Some, ap, arith, subst, sym, plain_move, Accept, AreStatesAfter, AreStatesOn, HasMove, IsStateOf, Kind, List, Reduce, Shift, TokenRule, top_stands}
+use Rattle.completion.proofs.Common.{◌≡◌, Some, ap, arith, subst, sym, plain_move, AreStatesAfter, HasMove, IsStateOf, Kind, List, Shift, TokenRule, top_stands}
 use Rattle.completion.proofs.Machines.{no_accept, states_on, states_shifted, stuck}
 use Rattle.completion.proofs.machine.Machine.read.Goals.{After-state}
 use Rattle.completion.proofs.machine.Machine.read.Goals as goal

@@ -1,4 +1,4 @@
-use Rattle.completion.proofs.Common.{◌+◌, ◌++◌, ◌≡◌, ◌∙◌, ◌∷◌, [], ap, arith, drop, false, subst, sym, take, true, AreStatesAfter, IsViable, kind_in, significant_kinds, viable_prefix}
+use Rattle.completion.proofs.Common.{◌+◌, ◌++◌, ◌≡◌, ◌∙◌, ◌∷◌, [], ap, arith, drop, subst, sym, take, AreStatesAfter, IsViable, significant_kinds, viable_prefix}
 use Rattle.completion.proofs.Matches.{of_false, of_true}
 use Rattle.completion.proofs.Steps.{none_here, tail_here}
 use Rattle.completion.proofs.Significant.{kinds_skipped, kinds_taken, kinds_within}

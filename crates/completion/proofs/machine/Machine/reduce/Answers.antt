@@ -1,4 +1,4 @@
-use Rattle.completion.proofs.Common.{◌++◌, ◌+◌, ◌-◌, ◌≡◌, ◌≤◌, ◌∙◌, ◌∷◌, [], ap, arith, get_or, length, rules, subst, sym, take, AreStatesOn, IsStateOf, goto_there}
+use Rattle.completion.proofs.Common.{◌++◌, ◌+◌, ◌-◌, ◌≡◌, ◌∙◌, ◌∷◌, [], ap, arith, get_or, length, rules, subst, sym, take, AreStatesOn, IsStateOf, goto_there}
 use Rattle.completion.proofs.Machines.{place, right_within, state_below, states_reduced}
 use Rattle.completion.proofs.machine.Machine.reduce.Goals.{After-state}
 use Rattle.completion.proofs.machine.Machine.reduce.Goals as goal
