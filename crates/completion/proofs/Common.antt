@@ -6,7 +6,7 @@ pub use Rattle.std.proofs.lemmas.Iterator.{YieldsList-from_chars}
 pub use Rattle.std.proofs.lemmas.Iterator.Consumers.{YieldsList-end}
 pub use Rattle.std.proofs.lemmas.Result.{IfOk-weaker}
 pub use Rattle.std.proofs.lemmas.List.{append-nil, map-append, map-id, take_all, drop-drop, drop-take, take-take}
-pub use Rattle.std.specs.Prelude.{All, IfOk, MatchBool, filter, nat_lt, not, option_to_list}
+pub use Rattle.std.specs.Prelude.{All, IfOk, IfSome, MatchBool, filter, nat_lt, not, option_to_list}
 pub use Rattle.std.proofs.lemmas.List.Elements.{All-take, filter-append}
 pub use Rattle.std.proofs.lemmas.List.Sums.{sum_by-take-le}
 pub use Rattle.definitions.proofs.TokensUnique.{IsPiece-inside}

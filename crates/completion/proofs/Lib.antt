@@ -1,5 +1,7 @@
 pub mod Common
 pub mod Machines
+pub mod Descents
+pub mod StackWays
 pub mod Splits
 pub mod Looks
 pub mod Steps

@@ -1,5 +1,5 @@
 -- What a test or an option leaves of two facts.
-use Rattle.completion.proofs.Common.{◌≡◌, Bool, MatchBool, MatchOption, None, Option, Some, false, is_some, subst, true}
+use Rattle.completion.proofs.Common.{◌≡◌, Bool, IfSome, MatchBool, MatchOption, None, Option, Some, false, is_some, subst, true}
 
 pub of_true : (A B : Type 0) (b : Bool) → b ≡ true → MatchBool b A B → A
 of_true A B b e = subst (λ b. MatchBool b A B) e
@@ -21,3 +21,6 @@ some_after P P' Q Q' (Some x) e f h = f x h
 pub none_after : {X : Type 0} → (P : Type 0) (Q : X → Type 0) (o : Option X) → is_some o ≡ false → MatchOption o P Q → P
 none_after P Q None e h = h
 none_after P Q (Some x) e h = absurd (cc e)
+
+pub if_some : {X : Type 0} → (P : X → Type 0) (o : Option X) (x : X) → o ≡ Some x → IfSome o P → P x
+if_some P o x e = subst (λ o. IfSome o P) e

@@ -1,5 +1,6 @@
 -- The kinds of the first tokens that aren't skipped.
-use Rattle.completion.proofs.Common.{◌++◌, ◌+◌, ◌-◌, ◌≡◌, ◌∙◌, ◌∷◌, ◌≤◌, ℕ, true, false, List, [], ap, append-nil, append_assoc, arith, drop, length, subst, sym, take, take-append-drop, take-take, refl, kind_in, kinds_append, significant_kinds, Token}
+use Rattle.completion.proofs.Common.{◌++◌, ◌+◌, ◌≡◌, ◌∙◌, ◌∷◌, ◌≤◌, ℕ, true, false, List, [], ap, append-nil, drop, length, sym, take, take-append-drop, take-take, refl, Kind, kind_in, kinds_append, significant_kinds, Token}
+use Rattle.std.proofs.Math.Seq.{take-append_seam}
 use Rattle.completion.proofs.Steps.{take_here}
 
 alone_skipped : (x : Token) → x.skipped ≡ true → significant_kinds (x ∷ []) ≡ []
@@ -25,3 +26,11 @@ pub kinds_within : (xs : List Token) (n m : ℕ) → n ≤ m → significant_kin
 kinds_within xs n m le =
     ap significant_kinds (sym (take-append-drop n (take m xs))) ∙ kinds_append (take n (take m xs)) (drop n (take m xs))
     ∙ ap (λ l. significant_kinds l ++ significant_kinds (drop n (take m xs))) (take-take n m xs le)
+
+-- they are the first of all
+pub kinds_front : (xs : List Token) (n k : ℕ) → k ≡ length (significant_kinds (take n xs)) → take k (significant_kinds xs) ≡ significant_kinds (take n xs)
+kinds_front xs n k e =
+    let front : List Kind = significant_kinds (take n xs) in
+    ap (λ m. take m (significant_kinds xs)) e
+    ∙ ap (take (length front)) (ap significant_kinds (sym (take-append-drop n xs)) ∙ kinds_append (take n xs) (drop n xs))
+    ∙ take-append_seam front (significant_kinds (drop n xs))

@@ -1,5 +1,6 @@
 pub mod Words
 pub mod Texts
 pub mod Machine
+pub mod Descent
 pub mod Places
 pub mod Offers

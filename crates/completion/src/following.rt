@@ -45,5 +45,5 @@ pub fn following<'a>(
         return Ok(Expected::nothing());
     };
     let last = unless_skipped(language.grammar(), before.last);
-    expected(alloc, language.tables(), tokens, before.count, last)
+    expected(alloc, language.tables(), doc, before.count, last)
 }

@@ -8,10 +8,11 @@
 //! where every letter that is typed at its start goes into a token that is there, as in a comment
 //! or a string, and nothing behind a fault.
 //!
-//! Limits: those of `docs`. `offers_at` costs the word, the token before it, and for each token of
-//! the text before it the moves of the LR(1) machine, which makes no tree: together about a fifth
-//! of what it costs to open that text. In the example `language` is loaded from the grammar file
-//! in README.md.
+//! Limits: those of `docs`. `offers_at` costs the word, the token before it, and the way from the
+//! trees of the document down to that token. Behind a fault, or where the tables don't lead down
+//! that way, it costs for each token before the word or the fault the moves of the LR(1) machine,
+//! which makes no tree: together about a fifth of what it costs to open that text. In the example
+//! `language` is loaded from the grammar file in README.md.
 //!
 //! ```
 //! let settings = guess(alloc, language.grammar()).ok()?;
@@ -25,6 +26,7 @@
 //! ```
 #![tactic(auto)]
 
+mod descent;
 mod following;
 mod machine;
 mod offers;

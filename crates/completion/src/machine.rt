@@ -1,18 +1,23 @@
 //! The LR(1) machine, without trees: the states of its stack are all that is kept.
 
-ghost use Rattle.std.specs.Prelude.{◌≡◌, ◌-◌, ◌<◌, ◌≤◌, ◌∷◌, ◌++◌, List, [], Some, IfOk, MatchBool, OnOk, length, option_to_list, slice_index_or, take};
+ghost use Rattle.std.specs.Prelude.{◌≡◌, ◌-◌, ◌<◌, ◌≤◌, ◌∷◌, ◌++◌, List, [], Some, IfOk, IfSome, MatchBool, MatchOption, OnOk, length, option_to_list, slice_index_or, take};
 ghost use Rattle.definitions.specs.declared.Kind.{Kind as TokenKind};
 ghost use Rattle.definitions.specs.Items.{HasMove, Reduce as ReduceMove};
 ghost use Rattle.definitions.specs.Sentences.{IsViable};
 ghost use Rattle.lexer.specs.Rescans.{significant_kinds};
+ghost use Rattle.parser.specs.Parses.{IsParseOf};
 ghost use Rattle.tables.specs.Expected.{AreExpected};
 ghost use Rattle.tables.specs.Tables.{IsAccepted};
 ghost use Rattle.completion.specs.Machine.{AreStatesAfter, AreStatesOn};
 
+use crate::descent::states_at;
 use definitions::Kind;
+use docs::Doc;
 use lexer::Tokens;
+use parser::Parse;
 use std::alloc::{AllocError, Global};
 use tables::{Expected, Move, Tables};
+use trees::Store;
 
 /// The states below and above the symbols on the stack.
 #[derive(Drop)]
@@ -138,23 +143,97 @@ impl Machine {
     }
 }
 
+/// How many of the first `count` tokens aren't skipped; none past what the tokens' sums can count,
+/// which is more than a text has.
+fn significant_before(tokens: &Tokens, count: usize) -> Option<usize>
+    ensures { IfSome result
+        (λ n. n ≡ length (significant_kinds (take count tokens.now.items))) }
+{
+    if count > u32::MAX as usize {
+        return None;
+    }
+    let sums = tokens.items().total_before(count);
+    Some(sums.significant as usize)
+}
+
+/// The machine that has read the kinds of the first `count` tokens that aren't skipped, where there
+/// are some, these are on the parser's stack, and the tables lead to them.
+fn machine_in_tree(
+    alloc: Global,
+    tables: &Tables,
+    tokens: &Tokens,
+    parse: &Parse,
+    store: &Store,
+    count: usize,
+) -> Result<Option<Machine>, AllocError>
+    requires { IsParseOf tables.now (significant_kinds tokens.now.items) store.now parse.now }
+    ensures { let kinds = significant_kinds (take count tokens.now.items) in
+        IfOk result (λ found. IfSome found (λ m.
+        AreStatesAfter tables.now kinds m.states.items)) }
+{
+    let Some(significant) = significant_before(tokens, count) else {
+        return Ok(None);
+    };
+    let Some(place) = significant.checked_sub(1) else {
+        return Ok(None);
+    };
+    let Some(states) = states_at(alloc, tables, store, parse.stack(), place)? else {
+        return Ok(None);
+    };
+    Ok(Some(Machine {
+        states,
+        left: u64::MAX,
+    }))
+}
+
+/// The machine that has read the kinds of the first `count` tokens that aren't skipped; none where
+/// no sentence begins with them.
+fn machine_after(
+    alloc: Global,
+    tables: &Tables,
+    tokens: &Tokens,
+    parse: &Parse,
+    store: &Store,
+    count: usize,
+) -> Result<Option<Machine>, AllocError>
+    requires parse { IsParseOf tables.now (significant_kinds tokens.now.items) store.now
+        parse.now }
+    requires within { count ≤ length tokens.now.items }
+    ensures accepted { IsAccepted tables.now.grammar }
+    ensures machine { let kinds = significant_kinds (take count tokens.now.items) in
+        IfOk result (λ found. MatchOption found (¬ IsViable tables.now.grammar kinds)
+        (λ m. AreStatesAfter tables.now kinds m.states.items)) }
+{
+    let mut machine = Machine::new(alloc, tables)?;
+    if let Some(there) = machine_in_tree(alloc, tables, tokens, parse, store, count)? {
+        return Ok(Some(there));
+    }
+    if machine.read_tokens(tables, tokens, count)? {
+        return Ok(Some(machine));
+    }
+    Ok(None)
+}
+
 /// What may follow the first `count` tokens and one more of this kind, in file order, and then the
 /// end; nothing where no sentence begins with their kinds. Refuses for memory alone.
 pub fn expected<'a>(
     alloc: Global,
     tables: &'a Tables,
-    tokens: &Tokens,
+    doc: &Doc,
     count: usize,
     last: Option<Kind>,
 ) -> Result<Expected<'a>, AllocError>
-    requires { count ≤ length tokens.now.items }
-    ensures { let kinds = significant_kinds (take count tokens.now.items) in
+    requires parse { IsParseOf tables.now (significant_kinds doc.now.tokens.items) doc.now.store
+        doc.now.parse }
+    requires within { count ≤ length doc.now.tokens.items }
+    ensures { let kinds = significant_kinds (take count doc.now.tokens.items) in
         IfOk result (AreExpected tables.now.grammar (kinds ++ option_to_list last)) }
 {
-    let mut machine = Machine::new(alloc, tables)?;
-    if !machine.read_tokens(tables, tokens, count)? {
+    let (tokens, parse, store) = (doc.tokens(), doc.parse(), doc.nodes());
+    let found = machine_after(alloc, tables, tokens, parse, store, count)?;
+    let Some(mut machine) = found else {
         return Ok(Expected::nothing());
-    }
+    };
     if !machine.read_last(tables, last)? {
         return Ok(Expected::nothing());
     }

@@ -1,4 +1,4 @@
-use Rattle.completion.proofs.Common.{◌++◌, ◌≡◌, ◌≤◌, ◌∙◌, All, IfOk, IfOk-weaker, List, MatchOption, Option, ap, is_skipped, kind_in, length, map, option_to_list, subst, sym, take, unskipped, AreBefore, AreExpected, AreTokens, Kind, plain, significant_kinds}
+use Rattle.completion.proofs.Common.{◌++◌, ◌≡◌, ◌≤◌, ◌∙◌, All, IfOk, IfOk-weaker, List, MatchOption, ap, is_skipped, kind_in, length, map, option_to_list, subst, sym, take, unskipped, AreBefore, AreExpected, AreTokens, Kind, Token, plain, significant_kinds}
 use Rattle.completion.proofs.Followers.{AreFollowing, kinds_before, nothing_follows, these_follow}
 use Rattle.completion.proofs.Matches.{of_none, of_some}
 use Rattle.completion.proofs.following.following.Goals.{In_ok-found}
@@ -37,4 +37,5 @@ returns c =
     (map kind_in (take c.in-Some.before.count items) ++ option_to_list c.in-Some.before.last)
     (significant_kinds (take c.in-Some.before.count items) ++ option_to_list c.unless_skipped-last.result)
     c.characters-text.ensures same there.1 kinds (subst (λ g. AreExpected g (significant_kinds (take c.in-Some.before.count items) ++ option_to_list c.unless_skipped-last.result) looks) rules h))
-    c.expected.ensures
+    (subst (λ (xs : List Token). IfOk c.expected.result (AreExpected c.tables.result.now.grammar (significant_kinds (take c.in-Some.before.count xs) ++ option_to_list c.unless_skipped-last.result)))
+    (sym same) c.expected.ensures)
