@@ -155,7 +155,8 @@ break_at p (suc i) d (c ∷ t) l e =
     rest = break_ends (p + 1) t
 
     go : (b : Bool) → (ended (p + suc i) (break_ends (p + 1) t) < length (break_ends (p + 1) t))
-        × (slice_index_or (break_ends (p + 1) t) (ended (p + suc i) (break_ends (p + 1) t)) d ≡ p + suc i + 1) → (ended (p + suc i) (cond b ((p + 1) ∷ rest) rest) < length (cond b ((p + 1) ∷ rest) rest))
+        × (slice_index_or (break_ends (p + 1) t) (ended (p + suc i) (break_ends (p + 1) t)) d ≡ p + suc i + 1)
+        → (ended (p + suc i) (cond b ((p + 1) ∷ rest) rest) < length (cond b ((p + 1) ∷ rest) rest))
         × (slice_index_or (cond b ((p + 1) ∷ rest) rest) (ended (p + suc i) (cond b ((p + 1) ∷ rest) rest)) d ≡ p + suc i + 1)
     go false moved = moved
     go true moved =
@@ -180,7 +181,8 @@ no_break_at p (suc i) (c ∷ t) l e =
     rest : List ℕ
     rest = break_ends (p + 1) t
 
-    go : (b : Bool) → ended (p + suc i + 1) (break_ends (p + 1) t) ≡ ended (p + suc i) (break_ends (p + 1) t) → ended (p + suc i + 1) (cond b ((p + 1) ∷ rest) rest) ≡ ended (p + suc i) (cond b ((p + 1) ∷ rest) rest)
+    go : (b : Bool) → ended (p + suc i + 1) (break_ends (p + 1) t) ≡ ended (p + suc i) (break_ends (p + 1) t)
+        → ended (p + suc i + 1) (cond b ((p + 1) ∷ rest) rest) ≡ ended (p + suc i) (cond b ((p + 1) ∷ rest) rest)
     go false moved = moved
     go true moved =
         ended-cons (p + suc i + 1) (p + 1) rest true (le-leb _ _ (omega arith)) ∙ ap (λ n. 1 + n) moved ∙ sym (ended-cons (p + suc i) (p + 1) rest true (le-leb _ _ (omega arith)))

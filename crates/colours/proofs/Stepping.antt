@@ -39,7 +39,8 @@ module _ (t : List ℕ) (encoding : Encoding) (offset : ℕ) (at : Position) (pl
     plain_all : All IsPlain (take count (drop offset t))
     plain_all = λ k d l.
         let near : k < count = omega (arith, l, length-take count (drop offset t)) in
-        subst IsPlain (sym (get_or-take count (drop offset t) k d near ∙ get_or-drop offset t k d ∙ get_or_default t (offset + k) d 0 (omega (arith, near, most, h.within)))) (h.plains k (omega (arith, near, most)))
+        subst IsPlain (sym (get_or-take count (drop offset t) k d near ∙ get_or-drop offset t k d
+        ∙ get_or_default t (offset + k) d 0 (omega (arith, near, most, h.within)))) (h.plains k (omega (arith, near, most)))
 
     pub place-plain : ◌≡◌ {A = Position} (record { line = at.line; character = at.character + count }) (position encoding t (offset + count))
     place-plain =
@@ -104,4 +105,5 @@ module _ (t : List ℕ) (encoding : Encoding) (offset : ℕ) (at : Position) (pl
         go (inr far) =
             let last : k ≡ length ends = omega (arith, far, l, length-append ends (at.character ∷ [])) in
             let line : at.line ≡ first + k = omega (arith, caught, last) in
-            ap (slice_index (ends ++ at.character ∷ [])) last ∙ get_or-append_seam ends at.character [] 0 ∙ line_end-is encoding t h.few ahead offset c at here h.is (break_off c ahead e) ∙ ap (line_end encoding t) line
+            ap (slice_index (ends ++ at.character ∷ [])) last ∙ get_or-append_seam ends at.character [] 0 ∙ line_end-is encoding t h.few ahead offset c at here h.is (break_off c ahead e)
+            ∙ ap (line_end encoding t) line

@@ -71,7 +71,8 @@ impl Window {
         ensures encoded { OnOk result ((parts : List Part)
             → AreEncoded parts encoder.old.numbers.items encoder.old.last
             → AreEncoded
-            (parts ++ within self.from self.to (parts_in steps.now.unit steps.now.text from to colour))
+            (parts ++ within self.from self.to
+            (parts_in steps.now.unit steps.now.text from to colour))
             encoder.new.numbers.items encoder.new.last) }
         ensures last { OnOk result (IsUpTo encoder.new.last to) }
     {

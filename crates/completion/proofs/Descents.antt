@@ -143,7 +143,8 @@ pub down_first : (t : Sets) (cells : List Cell) (stack : List Child) (place : �
 down_first t cells stack place old states inside has below ss trees e =
     let split = subst (λ cs. AreTrees t.grammar (plain_all (forest_in cells cs)) ss) e.split trees in
     let one = one_tree t.grammar (trees_from [] cells) e.passed inside.child e.left ss split in
-    let all : length (all_kinds (plain_of cells stack)) ≡ length (all_kinds (plain_of cells e.passed)) + (length (yield (plain (tree cells inside.child))) + length (all_kinds (plain_of cells e.left))) =
+    let all : length (all_kinds (plain_of cells stack)) ≡ length (all_kinds (plain_of cells e.passed)) + (length (yield (plain (tree cells inside.child))) + length (all_kinds
+    (plain_of cells e.left))) =
     ap (λ cs. length (all_kinds (plain_of cells cs))) e.split ∙ ap (λ ts. length (all_kinds ts)) (plain_of-append cells e.passed (inside.child ∷ e.left))
     ∙ ap length (kinds-append (plain_of cells e.passed) (plain_of cells (inside.child ∷ e.left)))
     ∙ length-append (all_kinds (plain_of cells e.passed)) (yield (plain (tree cells inside.child)) ++ all_kinds (plain_of cells e.left))

@@ -17,14 +17,18 @@ loop-token-init c = record {
 
 pub returns-then-start-self-clause-decoded : goal.returns-then-start-self-clause-decoded
 returns-then-start-self-clause-decoded c =
-    within_all c.args.unit c.args.text.now c.args.palette.now c.args.self.from c.args.self.to c.args.tokens.now.items c.loop-token.encoder.numbers.items c.loop-token.encoder.last c.loop-token.steps c.loop-token.token-iterator c.loop-token.invariant.walk
-    (none_below c.args.unit c.args.text.now c.args.palette.now c.args.self.from c.args.self.to c.args.tokens.now.items c.loop-token.encoder.numbers.items c.loop-token.encoder.last c.loop-token.steps c.loop-token.token-iterator
+    within_all c.args.unit c.args.text.now c.args.palette.now c.args.self.from c.args.self.to c.args.tokens.now.items c.loop-token.encoder.numbers.items c.loop-token.encoder.last
+    c.loop-token.steps c.loop-token.token-iterator c.loop-token.invariant.walk
+    (none_below c.args.unit c.args.text.now c.args.palette.now c.args.self.from c.args.self.to c.args.tokens.now.items c.loop-token.encoder.numbers.items c.loop-token.encoder.last
+    c.loop-token.steps c.loop-token.token-iterator
     c.loop-token.invariant.walk c.position-start.result c.position-start.ensures c.if-start-self.true)
 
 pub returns-then-start-self-clause-whole : goal.returns-then-start-self-clause-whole
 returns-then-start-self-clause-whole c =
-    within_whole c.args.unit c.args.text.now c.args.palette.now c.args.self.from c.args.self.to c.args.tokens.now.items c.loop-token.encoder.numbers.items c.loop-token.encoder.last c.loop-token.steps c.loop-token.token-iterator c.loop-token.invariant.walk
-    (none_below c.args.unit c.args.text.now c.args.palette.now c.args.self.from c.args.self.to c.args.tokens.now.items c.loop-token.encoder.numbers.items c.loop-token.encoder.last c.loop-token.steps c.loop-token.token-iterator
+    within_whole c.args.unit c.args.text.now c.args.palette.now c.args.self.from c.args.self.to c.args.tokens.now.items c.loop-token.encoder.numbers.items
+    c.loop-token.encoder.last c.loop-token.steps c.loop-token.token-iterator c.loop-token.invariant.walk
+    (none_below c.args.unit c.args.text.now c.args.palette.now c.args.self.from c.args.self.to c.args.tokens.now.items c.loop-token.encoder.numbers.items c.loop-token.encoder.last
+    c.loop-token.steps c.loop-token.token-iterator
     c.loop-token.invariant.walk c.position-start.result c.position-start.ensures c.if-start-self.true)
 
 pub push-requires-clause-last : goal.push-requires-clause-last
@@ -53,7 +57,8 @@ loop-token-preserved c =
     let before = subst (λ (ts : List Token). AreWithin c.args.unit c.args.text.now c.args.palette.now c.args.self.from c.args.self.to c.args.tokens.now.items
     c.loop-token.encoder.numbers.items c.loop-token.encoder.last c.loop-token.steps ts) next c.loop-token.invariant.walk in
     record {
-      walk = within_more c.args.unit c.args.text.now c.args.palette.now c.args.self.from c.args.self.to c.args.tokens.now.items c.loop-token.encoder.numbers.items c.loop-token.encoder.last c.loop-token.steps
+      walk = within_more c.args.unit c.args.text.now c.args.palette.now c.args.self.from c.args.self.to c.args.tokens.now.items c.loop-token.encoder.numbers.items
+          c.loop-token.encoder.last c.loop-token.steps
           c.advance.new.self c.in-Some.token.now c.next.new.self before c.advance.ensures.unit c.advance.ensures.text offset
           c.push.new.encoder.numbers.items c.push.new.encoder.last c.colour_of-colour.result c.position-start.result c.position-end.result
           c.position-start.ensures c.position-end.ensures (c.colour_of-colour.ensures ∙ ap (colour_of c.args.palette.now) c.kind.ensures)
@@ -64,9 +69,13 @@ loop-token-preserved c =
 pub returns-clause-decoded : goal.returns-clause-decoded
 returns-clause-decoded c =
     let none : c.loop-token.token-iterator ≡ [] = c.in-None.ensures.steps.0 in
-    within_all c.args.unit c.args.text.now c.args.palette.now c.args.self.from c.args.self.to c.args.tokens.now.items c.loop-token.encoder.numbers.items c.loop-token.encoder.last c.loop-token.steps [] (subst (λ (ts : List Token). AreWithin c.args.unit c.args.text.now c.args.palette.now c.args.self.from c.args.self.to c.args.tokens.now.items c.loop-token.encoder.numbers.items c.loop-token.encoder.last c.loop-token.steps ts) none c.loop-token.invariant.walk) refl
+    within_all c.args.unit c.args.text.now c.args.palette.now c.args.self.from c.args.self.to c.args.tokens.now.items c.loop-token.encoder.numbers.items c.loop-token.encoder.last
+    c.loop-token.steps [] (subst (λ (ts : List Token). AreWithin c.args.unit c.args.text.now c.args.palette.now c.args.self.from c.args.self.to c.args.tokens.now.items
+    c.loop-token.encoder.numbers.items c.loop-token.encoder.last c.loop-token.steps ts) none c.loop-token.invariant.walk) refl
 
 pub returns-clause-whole : goal.returns-clause-whole
 returns-clause-whole c =
     let none : c.loop-token.token-iterator ≡ [] = c.in-None.ensures.steps.0 in
-    within_whole c.args.unit c.args.text.now c.args.palette.now c.args.self.from c.args.self.to c.args.tokens.now.items c.loop-token.encoder.numbers.items c.loop-token.encoder.last c.loop-token.steps [] (subst (λ (ts : List Token). AreWithin c.args.unit c.args.text.now c.args.palette.now c.args.self.from c.args.self.to c.args.tokens.now.items c.loop-token.encoder.numbers.items c.loop-token.encoder.last c.loop-token.steps ts) none c.loop-token.invariant.walk) refl
+    within_whole c.args.unit c.args.text.now c.args.palette.now c.args.self.from c.args.self.to c.args.tokens.now.items c.loop-token.encoder.numbers.items
+    c.loop-token.encoder.last c.loop-token.steps [] (subst (λ (ts : List Token). AreWithin c.args.unit c.args.text.now c.args.palette.now c.args.self.from c.args.self.to
+    c.args.tokens.now.items c.loop-token.encoder.numbers.items c.loop-token.encoder.last c.loop-token.steps ts) none c.loop-token.invariant.walk) refl

@@ -54,7 +54,8 @@ invariant_of-self-in_err-push c =
     let h = c.self.invariant in
     let none : c.self.inside.plain ≡ 0 = omega (arith, c.if-self-gt0.false) in
     let on = breaks (goal.at.invariant_of-self-in_err-push c).After-ends_break ∙ c.if-not-ends_break.false in
-    step-one _ _ _ _ _ _ _ _ _ h c.in-Some.c none c.in-Some.is c.look.result.0 c.look.result.1 c.look.new.ahead c.push.new.self.items (record { line = c.self.inside.position.line + 1; character = 0 })
+    step-one _ _ _ _ _ _ _ _ _ h c.in-Some.c none c.in-Some.is c.look.result.0 c.look.result.1 c.look.new.ahead c.push.new.self.items
+    (record { line = c.self.inside.position.line + 1; character = 0 })
     c.look.ensures.plain c.look.ensures.within c.look.ensures.behind (place-break _ _ _ _ _ _ _ _ _ h c.in-Some.c none c.in-Some.is on)
     (subst (AreEnds c.self.inside.unit c.self.inside.text.now c.self.inside.first) (sym c.in_err-push.ensures.items) h.known)
 
@@ -63,7 +64,8 @@ invariant_of-self-2 c =
     let h = c.self.invariant in
     let none : c.self.inside.plain ≡ 0 = omega (arith, c.if-self-gt0.false) in
     let on = breaks (goal.at.invariant_of-self-2 c).After-ends_break ∙ c.if-not-ends_break.false in
-    step-one _ _ _ _ _ _ _ _ _ h c.in-Some.c none c.in-Some.is c.look.result.0 c.look.result.1 c.look.new.ahead c.push.new.self.items (record { line = c.self.inside.position.line + 1; character = 0 })
+    step-one _ _ _ _ _ _ _ _ _ h c.in-Some.c none c.in-Some.is c.look.result.0 c.look.result.1 c.look.new.ahead c.push.new.self.items
+    (record { line = c.self.inside.position.line + 1; character = 0 })
     c.look.ensures.plain c.look.ensures.within c.look.ensures.behind (place-break _ _ _ _ _ _ _ _ _ h c.in-Some.c none c.in-Some.is on)
     (subst (AreEnds c.self.inside.unit c.self.inside.text.now c.self.inside.first) (sym c.in_ok-push.ensures.items)
     (ends-more _ _ _ _ _ _ _ _ _ h c.in-Some.c none c.in-Some.is (caught _ _ c.self.view_is c.requires.last ∙ sym (ap (λ (p : Position). p.line) h.is)) on))
