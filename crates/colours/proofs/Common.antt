@@ -2,7 +2,7 @@
 pub use Rattle.std.proofs.Common.{All, ◌&&◌, ◌++◌, ◌+◌, ◌-◌, ◌*◌, ◌^◌, ◌<◌, ◌≤◌, ◌≡◌, ◌≢◌, ◌∙◌, ◌∷◌, ◌⊎◌, Bool, List, None, Option, Some, [], ap, append_assoc, arith, cond, drop, false, filter, inl, inr, get_or, length, length-append, map, min, refl, subst, suc, sym, take, true, zero, ℕ}
 pub use Rattle.std.specs.Prelude.{◌==◌, ◌%◌, ◌||◌, OnOk, nat_le, nat_lt, not, slice_index, slice_index_or}
 pub use Rattle.std.specs.List.{prefix_len, range_with_len}
-pub use Rattle.std.proofs.lemmas.Bool.{cases_Bool, cases_lt, eq-eqb, eqb-true, false≢true, le-leb, le-ltb, leb-true, lt-leb, lt-ltb, ltb-false, ltb-true, ne_eqb}
+pub use Rattle.std.proofs.lemmas.Bool.{cases_lt, eq-eqb, eqb-true, false≢true, le-leb, le-ltb, leb-true, lt-leb, lt-ltb, ltb-false, ltb-true, ne_eqb}
 pub use Rattle.std.proofs.lemmas.List.{append-nil, drop-drop, drop_more, get_or_append_left, get_or_default, get_or-drop, get_or-take, length-drop, length-take, map-append, take-append-drop, take-take, take_all}
 pub use Rattle.std.proofs.lemmas.Result.{on_ok_weaker}
 pub use Rattle.std.proofs.Math.Seq.{drop-cons, get_or-append_seam, take-add}

@@ -5,7 +5,8 @@ use Rattle.definitions.specs.declared.Unit.{Unit as Encoding}
 use Rattle.definitions.specs.Text.{position}
 use Rattle.colours.specs.Parts.{line_end}
 
--- where a walk over a text stands: the text, the unit of its position, an offset, and the lines from `first` up to `last`, whose ends it knows
+-- where a walk over a text stands: the text, the unit of its position, an offset, and the lines from `first` up to `last`, whose ends it
+-- knows
 pub record Step : Type 0 where
   pub text : List ℕ
   pub unit : Encoding

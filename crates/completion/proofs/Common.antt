@@ -1,12 +1,12 @@
 -- What the proofs of this crate cite of definitions, of types and of other crates, passed on from one place. Declares nothing.
 pub use mathlib.Core.List.{head-eq_of_cons-eq, map-map, tail-eq_of_cons-eq}
-pub use Rattle.std.proofs.Common.{◌++◌, ◌+◌, ◌-◌, ◌<◌, ◌≤◌, ◌≡◌, ◌∙◌, ◌∷◌, ◌⊎◌, Bool, IsTrue, List, MatchOption, is_some, None, Option, Some, [], ap, append_assoc, arith, drop, encode_utf8, encode_utf8_all, flat_map, false, get_or, inl, inr, length, length-append, length-drop, length-take, map, refl, rules, slice_get, slice_range, slice_set, string_bytes, subst, suc, vec_len, sym, take, take-append-drop, true, zero, ℕ}
+pub use Rattle.std.proofs.Common.{◌++◌, ◌+◌, ◌-◌, ◌<◌, ◌≤◌, ◌≡◌, ◌∙◌, ◌∷◌, Bool, IsTrue, List, MatchOption, is_some, None, Option, Some, [], ap, append_assoc, arith, drop, encode_utf8, encode_utf8_all, flat_map, false, get_or, inl, inr, length, length-append, length-drop, length-take, map, refl, rules, slice_get, slice_range, slice_set, string_bytes, subst, suc, vec_len, sym, take, take-append-drop, true, zero, ℕ}
 pub use Rattle.std.proofs.lemmas.Bool.{cases_lt, ltb-false, ltb-true}
 pub use Rattle.std.proofs.lemmas.Iterator.{YieldsList-from_chars}
 pub use Rattle.std.proofs.lemmas.Iterator.Consumers.{YieldsList-end}
 pub use Rattle.std.proofs.lemmas.Result.{IfOk-weaker}
 pub use Rattle.std.proofs.lemmas.List.{append-nil, map-append, map-id, take_all, drop-drop, drop-take, take-take}
-pub use Rattle.std.specs.Prelude.{All, IfOk, IfSome, MatchBool, filter, nat_lt, not, option_to_list}
+pub use Rattle.std.specs.Prelude.{All, IfOk, IfSome, MatchBool, nat_lt, not, option_to_list}
 pub use Rattle.std.proofs.lemmas.List.Elements.{All-take, filter-append}
 pub use Rattle.std.proofs.lemmas.List.Sums.{sum_by-take-le}
 pub use Rattle.definitions.proofs.TokensUnique.{IsPiece-inside}
@@ -29,7 +29,7 @@ pub use Rattle.lexer.proofs.Scans.{characters-more}
 pub use Rattle.lexer.proofs.SignificantKinds.{get_none, kinds_append, kinds_plain}
 pub use Rattle.lexer.proofs.Totals.{tot, total_characters}
 pub use Rattle.grammar.specs.Grammars.{FileGrammar}
-pub use Rattle.lexer.specs.Rescans.{plain_all, significant_kinds}
+pub use Rattle.lexer.specs.Rescans.{significant_kinds}
 pub use Rattle.lexer.specs.Tokens.{characters, kind_in, plain}
 pub use Rattle.lexer.specs.declared.sums.Sums.{Sums}
 pub use Rattle.lexer.specs.declared.sums.Token.{Token}
@@ -45,7 +45,7 @@ pub use Rattle.theory.proofs.Stack.{Handle, accept_stack, handle}
 pub use Rattle.theory.proofs.StackIsRead.{roots-forest}
 pub use Rattle.theory.proofs.Unique.{roots_unique}
 pub use Rattle.theory.proofs.Verdicts.{stuck_at_kind, viable_prefix}
-pub use Rattle.theory.specs.Machine.{IsStackAfter, Reduced, Reduces, Run, Shifts, StackHasMove, Stay}
+pub use Rattle.theory.specs.Machine.{IsStackAfter, Reduced, Reduces, Run, Shifts, Stay}
 pub use Rattle.completion.specs.Machine.{AreStatesAfter, AreStatesOn}
 pub use Rattle.completion.specs.Offers.{offer}
 pub use Rattle.completion.specs.Places.{AreBefore, EndsAt, Expected, Goes_into, IsLetter, MayFollow, typed, unskipped}

@@ -156,8 +156,8 @@ fn significant_before(tokens: &Tokens, count: usize) -> Option<usize>
     Some(sums.significant as usize)
 }
 
-/// The machine that has read the kinds of the first `count` tokens that aren't skipped, where there
-/// are some, these are on the parser's stack, and the tables lead to them.
+/// The machine that has read the kinds of the first `count` tokens that aren't skipped, where
+/// there are some, these are on the parser's stack, and the tables lead to them.
 fn machine_in_tree(
     alloc: Global,
     tables: &Tables,
