@@ -1,6 +1,6 @@
 //! Texts as measured lists of pieces: what pieces could change of the cases of a text.
 
-ghost use Rattle.std.specs.Prelude.{◌<◌};
+ghost use Rattle.std.specs.Prelude.{◌<◌, ◌≤◌, length};
 
 use crate::checks::{Step, at, check, expect, expect_at, has_characters, open};
 use crate::documents::{filled, text_of};
@@ -108,13 +108,6 @@ impl Numbers {
     }
 }
 
-/// Puts the characters of `old` from `from` up to `to` after the others.
-fn push_part(rt: &impl Abort, characters: &mut Vec<char>, old: &[char], from: usize, to: usize) {
-    for c in old.iter().take(to).skip(from) {
-        characters.push(*c).expect(rt, "memory");
-    }
-}
-
 /// Puts the characters of a text after the others.
 fn push_text(rt: &impl Abort, characters: &mut Vec<char>, text: &str) {
     for c in text.chars() {
@@ -122,20 +115,28 @@ fn push_text(rt: &impl Abort, characters: &mut Vec<char>, text: &str) {
     }
 }
 
-/// The characters with `new` in the place of those from `a` up to `b`.
-fn edited(
-    rt: &impl Abort,
-    alloc: Global,
-    old: &[char],
-    a: usize,
-    b: usize,
-    new: &str,
-) -> Vec<char> {
-    let mut characters = Vec::new(alloc);
-    push_part(rt, &mut characters, old, 0, a);
-    push_text(rt, &mut characters, new);
-    push_part(rt, &mut characters, old, b, old.len());
-    characters
+/// Puts `new` in the place of the characters from `a` up to `b`.
+fn edit_list(rt: &impl Abort, characters: &mut Vec<char>, a: usize, b: usize, new: &str)
+    requires ordered { a ≤ b }
+    requires in_range { b ≤ length characters.old.items }
+{
+    let after = characters.split_off(b).expect(rt, "memory");
+    characters.truncate(a);
+    push_text(rt, characters, new);
+    characters.extend_from_slice(&after).expect(rt, "memory");
+}
+
+/// Whether a text and a list have the same hundred characters, from the 50th before a place on.
+fn agree_around(text: &Text, wanted: &[char], place: usize) -> bool {
+    let from = place.saturating_sub(50);
+    let to = wanted.len().min(from.saturating_add(100));
+    let mut characters = text.chars_from(from);
+    for c in &wanted[from.min(to)..to] {
+        if characters.next() != Some(*c) {
+            return false;
+        }
+    }
+    true
 }
 
 /// 600 times two characters.
@@ -147,7 +148,8 @@ fn long_line(rt: &impl Abort, alloc: Global) -> String {
     line
 }
 
-/// Makes an edit at a random place of a text and of its characters.
+/// Makes an edit at a random place of a text and of its characters, and sees that they are the
+/// same on both sides of each end of what it put in.
 fn edit_both(
     rt: &impl Abort,
     alloc: Global,
@@ -156,17 +158,18 @@ fn edit_both(
     text: &mut Text,
     wanted: &mut Vec<char>,
 ) {
-    let len = text.len();
+    let len = wanted.len();
+    assert!(rt; text.len() == len, "as many characters");
     let a = numbers.below(len + 1);
     let b = a + numbers.below((len - a).min(500) + 1);
     let new = texts[numbers.below(6)];
     text.replace(alloc, a, b, new).expect(rt, "an edit");
-    *wanted = edited(rt, alloc, wanted, a, b, new);
-    expect(rt, text.len() == wanted.len(), "as many characters");
+    edit_list(rt, wanted, a, b, new);
+    expect_at(rt, agree_around(text, wanted, a), a);
+    expect_at(rt, agree_around(text, wanted, text.len() - (len - b)), b);
 }
 
-/// Makes ten thousand edits of a text and of its characters, and sees now and then that they are
-/// the same.
+/// Makes ten thousand edits of a text and of its characters.
 fn edit_in_turn(
     rt: &impl Abort,
     alloc: Global,
@@ -175,11 +178,8 @@ fn edit_in_turn(
     wanted: &mut Vec<char>,
 ) {
     let mut numbers = Numbers::new();
-    for step in 0..10_000 {
+    for _ in 0..10_000 {
         edit_both(rt, alloc, &mut numbers, texts, text, wanted);
-        if step % 64 == 0 {
-            expect_at(rt, has_characters(text, 0, wanted), step);
-        }
     }
 }
 
