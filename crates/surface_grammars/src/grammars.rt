@@ -1,7 +1,10 @@
-//! Grammar files: `grammar`.
+//! Grammar files: `grammar` and `grammar_file`.
 
-ghost use Rattle.std.specs.Prelude.{IfOk, IfErr, ◌≡◌, List, map, ◌≤◌, length, [], slice_index_or, ◌<◌, false};
-ghost use Rattle.grammar_file.specs.Causes.{Reports};
+ghost use Rattle.std.specs.Prelude.{IfOk, IfErr, ◌≡◌, List, map, ◌≤◌, length, [], slice_index_or, ◌<◌, false, ◌↔◌, IsTrue};
+ghost use Rattle.grammar_file.specs.Causes.{Reports, cause_of};
+ghost use Rattle.grammar_file.specs.declared.fault.GrammarCause.{GrammarCause as Cause};
+ghost use Rattle.grammar_file.specs.declared.fault.GrammarFault.{GrammarFault as Fault};
+ghost use Rattle.grammar_file.specs.declared.fault.Limit.{Limit as Bound};
 ghost use Rattle.grammar.specs.Faults.{IsFault};
 ghost use Rattle.grammar.specs.Grammars.{FileGrammar, IsGrammar};
 ghost use Rattle.grammar.specs.Meaning.{IsGrammarOf};
@@ -188,4 +191,18 @@ pub fn right(grammar: &Grammar, production: usize) -> &[Symbol]
     ensures { result.now ≡ right_of grammar.now.grammar production }
 {
     grammar.right(production)
+}
+
+/// `equal_faults_are_the_same`.
+pub fn equal_faults_are_the_same()
+    ensures limits { (a b : Bound) →
+        IsTrue (⟦<grammar_file::Limit as PartialEq>⟧.eq a b) ↔ (a ≡ b) }
+    ensures causes { (a b : Cause) →
+        IsTrue (⟦<grammar_file::GrammarCause as PartialEq>⟧.eq a b) ↔ (cause_of a ≡ cause_of b) }
+    ensures faults { (a b : Fault) →
+        IsTrue (⟦<grammar_file::GrammarFault as PartialEq>⟧.eq a b)
+        ↔ ((a.line ≡ b.line)
+        × IsTrue (⟦<grammar_file::GrammarCause as PartialEq>⟧.eq a.cause b.cause)) }
+{
+    grammar_file::laws::equal_faults_are_the_same();
 }

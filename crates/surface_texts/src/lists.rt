@@ -1,12 +1,15 @@
-//! Lists of measured items: `seqtree`.
+//! Lists of measured items: `seqtree` and `runs`.
 
 ghost use Rattle.std.specs.Prelude.{◌≡◌, [], length, slice_get, option_copied, drop, ◌*◌, ◌^◌, ◌<◌, ◌≤◌, ℕ, IsTrue, false, ◌+◌, take, IfOk, ◌++◌, ◌-◌};
 ghost use Rattle.seqtree.specs.Monoid.{total};
 ghost use Rattle.seqtree.specs.Tree.{digits};
+ghost use Rattle.seqtree.specs.Chunks.{AreCut};
+ghost use Rattle.runs.specs.Runs.{flattened};
 ghost use Rattle.std.specs.Prelude.{max, nat_le};
 ghost use Rattle.surface_texts.specs.Maxima.{max_left_unit, max_right_unit, max_assoc, max_stays};
 
-use seqtree::{Goal, Iter, Measured, Monoid, Seq, Slots};
+use runs::{Run, Runs};
+use seqtree::{Chunk, Goal, Iter, Measured, Monoid, Seq, Slots};
 use std::alloc::{AllocError, Global};
 
 /// `Monoid`: `zero` and `join`.
@@ -164,4 +167,22 @@ impl Goal<Greatest> for AtLeast {
 pub fn next<'a, T: Measured>(items: &mut Iter<'a, T>) -> Option<&'a T> {
     let item: Option<&'a T> = items.next();
     item
+}
+
+/// `cut_up`.
+pub fn cut_up<C: Chunk>(alloc: Global, items: C::Items) -> Result<Vec<C>, AllocError>
+    ensures { IfOk result (λ chunks.
+        AreCut C.items C.size C.SHORTEST C.LONGEST (C.list items) chunks.items) }
+{
+    seqtree::cut_up(alloc, items)
+}
+
+/// `Runs::seq`.
+pub fn seq<T: Measured + Copy>(list: &Runs<T>) -> &Seq<Run<T>>
+    ensures items { flattened result.now ≡ list.now }
+    ensures counted { length list.now < 2 ^ 64 }
+    ensures few { 32 * length result.now ≤ length list.now + 32 }
+    ensures enough { length list.now ≤ 64 * length result.now }
+{
+    list.seq()
 }

@@ -1,12 +1,12 @@
 //! Texts: `text`, and the sums of `pieces`.
 
-ghost use Rattle.std.specs.Prelude.{◌≡◌, ◌<◌, ◌↔◌, length, Err, IfOk, OnOk, OnErr, encode_utf8_all, ◌≤◌, drop, ◌+◌, ◌*◌, ℕ, List, ◌++◌, IsTrue, Option};
+ghost use Rattle.std.specs.Prelude.{◌≡◌, ◌<◌, ◌↔◌, length, Err, IfOk, OnOk, OnErr, encode_utf8_all, ◌≤◌, drop, ◌+◌, ◌*◌, ℕ, List, ◌++◌, IsTrue, Option, [], ◌∷◌};
 ghost use Rattle.std.specs.Str.{chars};
 ghost use Rattle.definitions.specs.Text.{edit, IsText, changed, units};
 ghost use Rattle.definitions.specs.Text as of;
 ghost use Rattle.std.specs.List.{concat};
 ghost use Rattle.definitions.specs.declared.Unit.TheVariants.{Utf8};
-ghost use Rattle.pieces.specs.Sums.{sums_of, joined, most};
+ghost use Rattle.pieces.specs.Sums.{count_of, sums_of, joined, most};
 ghost use Rattle.pieces.specs.declared.sums.Counts.{Counts};
 ghost use Rattle.pieces.specs.declared.sums.Sums.{Sums};
 ghost use Rattle.pieces.specs.declared.sums.Units.{Units};
@@ -168,4 +168,26 @@ pub fn equal_text_faults_are_the_same()
     ensures { (a b : Fault) → IsTrue (⟦<text::TextFault as PartialEq>⟧.eq a b) ↔ (a ≡ b) }
 {
     text::equal_faults_are_the_same();
+}
+
+/// `Units::of`.
+pub fn units_of(counted: pieces::Units, unit: Unit) -> u32
+    ensures { result ≡ count_of unit counted }
+{
+    counted.of(unit)
+}
+
+/// `of_character`.
+pub fn of_character(c: char) -> pieces::Sums
+    ensures { result ≡ sums_of (c ∷ []) }
+{
+    pieces::of_character(c)
+}
+
+/// `of_text`.
+pub fn of_text(text: &str) -> pieces::Sums
+    requires { length text.now ≤ most }
+    ensures { result ≡ sums_of (chars text.now) }
+{
+    pieces::of_text(text)
 }

@@ -30,6 +30,13 @@ pub fn token(token: Token) -> (u64, u32, u32, Kind) {
     (token.born, token.length, token.reach, token.kind())
 }
 
+/// `PackedToken::unpack`.
+pub fn unpack(token: PackedToken) -> Token
+    ensures { result ≡ token }
+{
+    token.unpack()
+}
+
 /// `ShortKind`.
 pub fn short_kind(kind: ShortKind) -> Kind
     ensures { result ≡ long kind }
@@ -54,7 +61,7 @@ pub fn scan<S: Source>(
     automaton: &Automaton,
     source: &S,
 ) -> Result<Tokens, AllocError>
-    requires sound { IsAutomaton (lexicon_of grammar.now).patterns automaton.now }
+    requires sound { IsAutomaton grammar.now.patterns automaton.now }
     requires small { length (S.text source.now) ≤ 1048576 }
     requires window { (i : ℕ) → i < length (S.text source.now) → S.in_window source.now i }
     ensures tokens { IfOk result
@@ -74,11 +81,12 @@ pub fn rescan<S: Source>(
     source: &S,
     edit: Edit,
 ) -> Result<KindSplice, AllocError>
-    requires sound { IsAutomaton (lexicon_of grammar.now).patterns automaton.now }
+    requires sound { IsAutomaton grammar.now.patterns automaton.now }
     requires small { length (S.text source.now) ≤ 1048576 }
-    requires edited { IsEdited (lexicon_of grammar.now) edit tokens.old.items (S.text source.now) }
+    requires edited { let lexicon = lexicon_of grammar.now in
+        IsEdited lexicon edit tokens.old.items (S.text source.now) }
     requires window { (i : ℕ)
-        → IsNeeded (lexicon_of grammar.now).patterns edit tokens.old.items (S.text source.now) i
+        → IsNeeded grammar.now.patterns edit tokens.old.items (S.text source.now) i
         → S.in_window source.now i }
     ensures after { IfOk result (λ s. AreTokensAfter (lexicon_of grammar.now) edit
         (S.text source.now) (plain_splice s) tokens.old tokens.new) }
