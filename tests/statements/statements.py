@@ -18,6 +18,7 @@ from tests.statements import (
     definitions as definitions_page,
     edits_told,
     libraries,
+    promised,
     said_twice,
 )
 from tests.statements.rows import UNDER_RUN, Guards
@@ -295,3 +296,4 @@ def check(cases: Cases, top: str) -> None:
     edits_told.check(cases, top)
     said_twice.check(cases, top)
     libraries.check(cases, top)
+    promised.check(cases, top)

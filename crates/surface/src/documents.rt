@@ -1,11 +1,15 @@
 //! Documents: `docs`.
 
-ghost use Rattle.std.specs.Prelude.{IfOk, IfErr, ◌≡◌, ◌↔◌, Err, None, true, false, string_bytes, encode_utf8_all, length, Option, map, option_map, ◌+◌, OnOk, min, IsTrue};
+ghost use Rattle.std.specs.Prelude.{IfOk, IfErr, ◌≡◌, ◌↔◌, Err, None, true, false, string_bytes, encode_utf8_all, length, Option, map, option_map, ◌+◌, OnOk, OnErr, All, min, IsTrue};
 ghost use Rattle.docs.specs.Languages.{IsLanguageOf, IsLoadFault, LanguageData};
 ghost use Rattle.std.specs.Str.{chars};
 ghost use Rattle.docs.specs.Docs.{open_document, IsCurrent, last_edit};
 ghost use Rattle.readings.specs.Texts.{fits};
 ghost use Rattle.definitions.specs.Text.{changed};
+ghost use Rattle.definitions.specs.TokenEdits.{plain_splice};
+ghost use Rattle.grammar.specs.Grammars.{lexicon_of};
+ghost use Rattle.lexer.specs.Rescans.{AreTokensAfter, IsEdited};
+ghost use Rattle.lexer.specs.Tokens.{AreTokensOf};
 ghost use Rattle.docs.specs.Changes.{IsChanged};
 ghost use Rattle.readings.specs.Edits.{AreStats, number_of, AlwaysCounts, CountsOnce};
 ghost use Rattle.definitions.specs.Answers.{Diagnostic as Fault};
@@ -24,9 +28,11 @@ use docs::{
     Diagnostic, Doc, DocFault, Language, LoadFault, Outcome, Pending, Position, Range, Stats, Unit,
 };
 use grammar::{Grammar, GrammarFault};
+use lexer::{Edit, KindSplice, Tokens};
 use std::alloc::{AllocError, Global};
 use std::rc::Rc;
 use tables::Conflict;
+use text::Text;
 use trees::Store;
 
 /// `docs::Row`.
@@ -48,6 +54,38 @@ pub fn grammar(language: &Language) -> &Grammar
     ensures { result.now ≡ language.now.file }
 {
     language.grammar()
+}
+
+/// `Language::scan`.
+pub fn scan(
+    language: &Language,
+    alloc: Global,
+    text: &Text,
+    utf8: &str,
+) -> Result<Tokens, AllocError>
+    requires { text.now ≡ chars utf8.now }
+    ensures tokens { IfOk result
+        (λ r. AreTokensOf (lexicon_of language.now.file) text.now r.items) }
+    ensures born { IfOk result (λ r. All (λ x. x.born ≡ 0) r.items) }
+    ensures scanned { IfOk result (λ r. r.scanned ≡ length r.items) }
+{
+    language.scan(alloc, text, utf8)
+}
+
+/// `Language::rescan`.
+pub fn rescan(
+    language: &Language,
+    alloc: Global,
+    tokens: &mut Tokens,
+    text: &Text,
+    edit: Edit,
+) -> Result<KindSplice, AllocError>
+    requires { IsEdited (lexicon_of language.now.file) edit tokens.old.items text.now }
+    ensures after { IfOk result (λ s. AreTokensAfter (lexicon_of language.now.file) edit text.now
+        (plain_splice s) tokens.old tokens.new) }
+    ensures err { OnErr result (tokens.new ≡ tokens.old) }
+{
+    language.rescan(alloc, tokens, text, edit)
 }
 
 /// `LoadFault`: the fault of the grammar file, or the conflict with the grammar that has it.

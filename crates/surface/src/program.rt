@@ -1,6 +1,6 @@
 //! The server and the program: `sessions`, `server` and `commands`.
 
-ghost use Rattle.std.specs.Prelude.{◌≡◌, false, true, IfOk, OnOk, OnErr, IsErr, ◌↔◌, ℕ, List, All, IsErrOf, map, string_bytes, IfErr, IsTrue};
+ghost use Rattle.std.specs.Prelude.{◌≡◌, false, true, IfOk, OnOk, OnErr, IsErr, ◌↔◌, ℕ, List, All, IsErrOf, map, string_bytes, IfErr, IsTrue, []};
 ghost use Rattle.sessions.specs.Steps.{first_state, StepOn};
 ghost use Rattle.server.specs.States.{has_failed, state_view};
 ghost use Rattle.rpc.specs.Messages.{received_of, Received};
@@ -13,6 +13,9 @@ ghost use Rattle.sessions.specs.Replies.{EachRequestIsAnswered, NoNotificationIs
 ghost use Rattle.sessions.specs.Sessions.{Session};
 ghost use Rattle.sessions.specs.Sizes.{TooLargeIsExact};
 ghost use Rattle.commands.specs.CommandLines.{IsRead};
+ghost use Rattle.commands.specs.Conflicts.{conflict_text};
+ghost use Rattle.commands.specs.Texts.{PrintsFault};
+ghost use Rattle.tables.specs.Reports.{IsReport};
 ghost use Rattle.std.specs.Str.{IsUtf8};
 ghost use Rattle.docs.specs.Languages.{IsLanguageOf};
 ghost use Rattle.commands.specs.Refusals.{IsRefused};
@@ -25,13 +28,15 @@ ghost use Rattle.readings.specs.Edits.{CountsOnce};
 ghost use Rattle.sessions.specs.declared.fault.RunFault.{RunFault as Ending};
 ghost use Rattle.sessions.specs.declared.phase.Phase.{Phase as Stage};
 
-use commands::{Printed, Words};
+use commands::{Fault, Printed, Words};
 use docs::{Doc, Language};
 use frames::{FrameFault, Input, Output};
+use grammar::Grammar;
 use rpc::{Message, Reply, RpcFault};
 use server::{Out, RunFault, Server};
 use serving::Served;
 use std::alloc::{AllocError, Global};
+use tables::Conflict;
 
 /// `Server::new`.
 pub fn new(alloc: Global, language: Language) -> Server
@@ -143,6 +148,37 @@ pub fn parse(alloc: Global, language: &Language, bytes: &[u8]) -> Result<Printed
 pub fn printed(printed: Printed) -> (Vec<u8>, Vec<u8>, u8) {
     let Printed { out, err, status } = printed;
     (out, err, status)
+}
+
+/// `Printed::text`.
+pub fn text(alloc: Global, text: String, status: u8) -> Printed
+    ensures out { result.out.items ≡ string_bytes text }
+    ensures err { result.err.items ≡ [] }
+    ensures status { result.status ≡ status }
+{
+    Printed::text(alloc, text, status)
+}
+
+/// `Printed::fault`.
+pub fn fault(alloc: Global, fault: &Fault) -> Result<Printed, AllocError>
+    ensures { IfOk result (PrintsFault fault.now) }
+{
+    Printed::fault(alloc, fault)
+}
+
+/// `Printed::conflict`.
+pub fn conflict(
+    alloc: Global,
+    grammar: &Grammar,
+    conflict: &Conflict,
+) -> Result<Printed, AllocError>
+    requires { IsReport grammar.now.grammar conflict.now }
+    ensures out { IfOk result (λ printed. printed.out.items ≡ []) }
+    ensures status { IfOk result (λ printed. printed.status ≡ 2) }
+    ensures conflict { IfOk result (λ printed.
+        printed.err.items ≡ conflict_text grammar.now conflict.now) }
+{
+    Printed::conflict(alloc, grammar, conflict)
 }
 
 /// `server::Doc` and `server::Language`.
