@@ -18,8 +18,8 @@ repaired r copy = take r.at copy ++ changed r.changes.items (drop r.at copy)
 abbrev pub IsFirstFault : Grammar → List Kind → ℕ → Type 0
 IsFirstFault g kinds k = IsVerdict g kinds (FaultAt k) ⊎ ((k ≡ length kinds) × IsVerdict g kinds FaultAtEnd)
 
--- `IsRepairOf g kinds copy r`: the repair stands at the first fault of a copy of the kinds, which lies in what it passes or right behind, and
--- has what could have stood there; from where it begins on, the copy is the kinds from number `from` on
+-- `IsRepairOf g kinds copy r`: the repair stands at the first fault of a copy of the kinds, which lies in what it passes or right behind,
+-- and has what could have stood there; from where it begins on, the copy is the kinds from number `from` on
 pub record IsRepairOf (g : Grammar) (kinds copy : List Kind) (r : Repair) : Type 0 where
   pub first : IsFirstFault g copy r.fault
   pub expected : AreExpected g (take r.fault copy) r.expected.items

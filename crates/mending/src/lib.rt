@@ -4,21 +4,21 @@
 //! `Mending::whole` mends kinds, fault after fault. `repairs` says what was done, `kinds` is the
 //! copy, `parse` and `nodes` are its parse, and `tree` is its tree, where it is a sentence.
 //!
-//! Words: a *repair* stands at the first fault of the copy as the repairs before it have left it,
-//! and is a list of *changes*: a kind is put in, left out, or stays between others. The *rank* of
-//! a rule says what is put in first; a closing bracket or a separator should have a low one.
+//! Words: a *repair* stands at the first fault of the copy as those before it have left it, and is
+//! a list of *changes*: a kind is put in, left out, or stays between others. The *rank* of a rule
+//! says what is put in first; a closing bracket or a separator should have a low one.
 //!
 //! A repair is the cheapest found after which three more kinds, or the end, go on. Each kind that
-//! it puts in or leaves out costs one, four at most, and a fault behind it costs one, or three
-//! within 32 kinds. Of these it is the one with which the most kinds go on (up to 1,024), then the
-//! one of the least ranks, and then the first: leaving out, then rules in file order. Of changes
-//! with which the parser comes to the same stack before the same kind, only the first are tried.
-//! Where there is no repair, kinds are left out around the fault, as few as can be, up to where
-//! three go on.
+//! it puts in or leaves out costs one, four at most, and a fault behind it one, or three within 32
+//! kinds. Of these it is the one with which the most kinds go on (up to 256), then the one of the
+//! least ranks, then the first: leaving out, then rules in file order. Of changes that lead to the
+//! same stack only the first are tried. Where there is none, or fewer than eight kinds go on with
+//! the best when the moves run out, as few kinds as can be are left out around the fault up to
+//! where three go on; a fault behind them counts as four kinds, or 24 within 32.
 //!
-//! Limits: 256 faults; 8,192 places and 32,768 moves at each of the first 16, 2,048 at others. A
-//! repair costs these, and a copy of the kinds. In the example `tables` are those of the grammar
-//! file in README.md, whose rules 0 and 3 are a number and the closing parenthesis.
+//! Limits: 256 faults, 8 repairs of each; at each of the first 16 twice 32,768 moves, 2,048 at
+//! others, and 512 places for each number of changes. A repair costs these, and a copy of the
+//! kinds. In the example `tables` are those of the grammar file in README.md.
 //!
 //! ```
 //! let kinds = [Kind::Rule(2), Kind::Rule(0)];

@@ -85,8 +85,9 @@ fn copied<K: Kinds>(alloc: Global, kinds: &K) -> Result<Vec<Kind>, AllocError>
 {
     let count = kinds.len();
     let mut copy = Vec::with_capacity(alloc, count)?;
+    let mut ahead = kinds.ahead(0);
     for k in 0..count {
-        let Some(kind) = kinds.kind(k) else {
+        let Some(kind) = kinds.next(&mut ahead, k) else {
             unreachable!();
         };
         copy.push(kind)?;
@@ -422,8 +423,8 @@ impl Mending {
         &self.repairs
     }
 
-    /// For each kind of the copy its number in what is mended; none for one that is put in. Refuses
-    /// for memory alone.
+    /// For each kind of the copy its number in what is mended; none for one that is put in.
+    /// Refuses for memory alone.
     pub fn origins(&self, alloc: Global) -> Result<Vec<Option<usize>>, AllocError> {
         let mut origins = Origins::new(alloc);
         for repair in &self.repairs {

@@ -99,8 +99,8 @@ struct Priced {
     cost: usize,
 }
 
-/// What a gap costs: its kinds, and more where a fault comes behind it. None where not enough kinds
-/// go on.
+/// What a gap costs: its kinds, and more where a fault comes behind it. None where not enough
+/// kinds go on.
 fn cost(ahead: &mut Ahead<'_>, base: Base, behind: usize) -> Result<Option<usize>, AllocError> {
     let reach = ahead.reach(base.stack, behind)?;
     if !ahead.is_enough(behind, reach) {

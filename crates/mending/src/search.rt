@@ -312,8 +312,8 @@ impl<'a> Search<'a> {
     /// too; of these the ones with which the most kinds go on, then those of the least rank, and
     /// then the first ones, where leaving out comes before putting in, and that in file order.
     /// They come first, and behind them others of as many changes, the best first, eight in all.
-    /// None where none are found, or where the moves run out before all are tried and a fault comes
-    /// right behind the best ones.
+    /// None where none are found, or where the moves run out before all are tried and a fault
+    /// comes right behind the best ones.
     pub fn run(&mut self) -> Result<Option<Vec<Vec<Change>>>, AllocError> {
         let mut from = 0;
         for changes in 1..=MOST_CHANGES {

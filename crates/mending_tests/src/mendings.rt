@@ -1,14 +1,11 @@
 //! Mended copies of worked kinds of sums. `bench/mending` has real texts.
 
-ghost use Rattle.std.specs.Prelude.{⊤};
-
 use definitions::Kind;
 use grammar::Grammar;
-use mending::{Change, Mending};
+use mending::{Change, Listed, Mending};
 use std::alloc::Global;
 use std::process::Abort;
 use tables::Tables;
-use trees::Kinds;
 use worked::SUMS;
 
 const NUM: Kind = Kind::Rule(0);
@@ -22,33 +19,6 @@ const RP: Kind = Kind::Rule(3);
 /// A sign and a closing parenthesis are put in rather than a number, and that rather than an
 /// opening one.
 const RANKS: &[u8] = &[2, 0, 3, 0];
-
-#[derive(Drop)]
-struct Listed<'a> {
-    kinds: &'a [Kind],
-}
-
-impl<'a> Kinds for Listed<'a> {
-    type Ahead = ();
-
-    ghost kinds = { λ s. s.kinds.now };
-
-    ghost is_before = { λ s k ahead. ⊤ };
-
-    fn len(&self) -> usize {
-        self.kinds.len()
-    }
-
-    fn kind(&self, k: usize) -> Option<Kind> {
-        self.kinds.get(k).copied()
-    }
-
-    fn ahead(&self, _k: usize) {}
-
-    fn next(&self, _ahead: &mut (), k: usize) -> Option<Kind> {
-        self.kind(k)
-    }
-}
 
 /// Kinds, the number of the fault that is mended, how it is, and the copy.
 type Row<'a> = (&'a [Kind], usize, &'a [Change], &'a [Kind]);

@@ -5,4 +5,8 @@ use Rattle.mending.proofs.mending.copied.Goals as goal
 pub loop-k-preserved : goal.loop-k-preserved
 loop-k-preserved g c =
     let kind = c.in-Some.kind in
-    c.in_ok-push.ensures.items ∙ ap (λ l. l ++ (kind ∷ [])) c.loop-k.invariant ∙ sym (taken (g.K.Kinds.kinds c.args.kinds.now) c.loop-k.k kind (sym c.in-Some.ensures))
+    record {
+      copied = c.in_ok-push.ensures.items ∙ ap (λ l. l ++ (kind ∷ [])) c.loop-k.invariant.copied
+          ∙ sym (taken (g.K.Kinds.kinds c.args.kinds.now) c.loop-k.k kind (sym c.in-Some.ensures.is));
+      before = c.in-Some.ensures.moved;
+    }
