@@ -12,7 +12,7 @@ from tests import TOP
 from tests.common import serving
 from tests.common.cases import Cases
 from tests.common.serving import received
-from tests.ide import crates, languages, sessions, tables, trouble
+from tests.ide import crates, faulty, languages, sessions, tables, trouble
 from tests.ide import written as written_files
 from tests.ide.client import (
     Client,
@@ -97,8 +97,8 @@ def early(cases: Cases, _: str) -> None:
 
 
 def outline(cases: Cases, _: str) -> None:
-    """The outlines of three samples, worked out by hand; with a fault put in, what stands before
-    it; and as a plain list."""
+    """The outlines of three samples, worked out by hand; with a fault put in, the same; and as a
+    plain list."""
     for name, awaited in tables.OUTLINES.items():
         text = sample(name)
         with Client(name.split(".")[0]) as client:
@@ -127,8 +127,7 @@ def faulty_outline(
     found = names(client.outline(URI))
     has_fault = bool(client.published(URI, version))
     where = f"{name} with a fault in line {line}"
-    before = [row[:3] for row in awaited if row[4][:2] < (line, 0)] if has_fault else found
-    cases.check(f"outline: before the fault of {where}", before, found)
+    cases.check(f"outline: {where}", [row[:3] for row in awaited] if has_fault else found, found)
     client.open("a:anew", text[:offset] + "\x00" + text[offset:])
     cases.check(f"outline: {where}, opened anew", found, names(client.outline("a:anew")))
     client.close("a:anew")
@@ -177,7 +176,7 @@ def messages(cases: Cases, _: str) -> None:
     for language, text, message, related in tables.MESSAGES:
         with Client(language) as client:
             client.open(URI, text)
-            (found,) = client.published(URI)
+            found, *_behind = client.published(URI)
             name, said = f"{language}: {text!r}", found["message"]
             begun = said[: len(message)] if message.endswith(" ") else said
             cases.check(f"message of {name}", message, begun)
@@ -254,6 +253,7 @@ def unchanged(cases: Cases, _: str) -> None:
 GROUPS: List[Group] = [
     *(colours, early, outline, completion, messages, hovers, unchanged),
     *crates.GROUPS,
+    *faulty.GROUPS,
     *sessions.GROUPS,
     *written_files.GROUPS,
     *trouble.GROUPS,

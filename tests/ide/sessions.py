@@ -23,6 +23,7 @@ METHODS = (
     "completion",
     "hover",
     "documentHighlight",
+    "codeAction",
 )
 START = {"line": 0, "character": 0}
 # Inputs that end the server, the status, and what it says.
@@ -108,7 +109,13 @@ def bad_params(cases: Cases, client: Client) -> None:
 def bad_places(cases: Cases, client: Client) -> None:
     """Places that are none, and one behind the end."""
     ask: Message = {"textDocument": {"uri": URI}}
-    for method in ("hover", "completion", "documentHighlight", "semanticTokens/range"):
+    for method in (
+        "hover",
+        "completion",
+        "documentHighlight",
+        "semanticTokens/range",
+        "codeAction",
+    ):
         params = {**ask, "position": {"line": -1}, "range": 1}
         answer = client.request(f"textDocument/{method}", params)
         cases.check(f"a bad place for {method}", -32602, answer.get("error", {}).get("code"))

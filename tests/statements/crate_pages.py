@@ -17,6 +17,7 @@ NOT_RUN = (
     "colours",
     "completion",
     "editor_replies",
+    "faults",
     "grammar_reports",
     "hover",
     "ide",

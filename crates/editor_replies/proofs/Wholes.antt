@@ -1,12 +1,12 @@
 -- Nothing that is sent has a number with a fraction.
 use Rattle.std.proofs.Common.{◌||◌, ◌≡◌, ℕ, ℤ, List, [], ◌∷◌, Option, Some, None, Bool, true, false, if◌then◌else◌, refl, ap}
 use Rattle.definitions.specs.declared.Range.{Range}
-use Rattle.serde_json.specs.Data.{Data, array, item, no_items, null}
+use Rattle.serde_json.specs.Data.{Data, array, item, null}
 use Rattle.serde_json.specs.Written.{has_float, items_have_float}
 use Rattle.replies.proofs.Replies.{reply_is_whole, result_is_whole, id_is_whole, integer_is_whole}
 use Rattle.replies.specs.Replies.{id_data, published}
-use Rattle.editor_replies.specs.Sent.{Message, NumbersEdit, OfferData, WordedFault, of_core, capabilities, changes, colours, offers, own, some_result, worded, cancelled, notice, call}
-use Rattle.editor_replies.specs.Sending.{changes_result, colours_result, fault_data, initialized_data, message_data, number_items, offer_items, offers_result, text_items, without_fractions, call_data}
+use Rattle.editor_replies.specs.Sent.{Message, NumbersEdit, OfferData, WordedFault, of_core, capabilities, changes, colours, offers, own, some_result, worded, grown, cancelled, notice, call}
+use Rattle.editor_replies.specs.Sending.{changes_result, colours_result, fault_data, initialized_data, message_data, number_items, offer_items, offers_result, text_items, value_items, without_fractions, call_data}
 
 numbers_are_whole : (numbers : List ℕ) → items_have_float (number_items numbers) ≡ false
 numbers_are_whole [] = refl
@@ -33,12 +33,16 @@ if_whole : (value : Data) (b : Bool) → has_float value ≡ b → has_float (if
 if_whole value true e = refl
 if_whole value false e = e
 
+values_are_whole : (values : List Data) → items_have_float (value_items values) ≡ false
+values_are_whole [] = refl
+values_are_whole (v ∷ values) = rw (if_whole v (has_float v) refl, values_are_whole values) refl
+
 published_is_whole : (fault : WordedFault) (version : Option ℤ) (related : Option (List ℕ))
-    → has_float (published fault.uri version (array (item (fault_data fault related) no_items))) ≡ false
-published_is_whole fault None None = refl
-published_is_whole fault None (Some text) = refl
-published_is_whole fault (Some version) None = ap (λ b. b || false) (integer_is_whole version)
-published_is_whole fault (Some version) (Some text) = ap (λ b. b || false) (integer_is_whole version)
+    → has_float (published fault.uri version (array (item (fault_data fault related) (value_items fault.behind)))) ≡ false
+published_is_whole fault None None = rw (values_are_whole fault.behind) refl
+published_is_whole fault None (Some text) = rw (values_are_whole fault.behind) refl
+published_is_whole fault (Some version) None = rw (values_are_whole fault.behind, integer_is_whole version) refl
+published_is_whole fault (Some version) (Some text) = rw (values_are_whole fault.behind, integer_is_whole version) refl
 
 call_is_whole : (id method : List ℕ) (params : Option Data) → has_float (call_data id method params) ≡ false
 call_is_whole id method None = refl
@@ -47,6 +51,7 @@ call_is_whole id method (Some params) = ap (λ b. b || false) (if_whole params (
 pub message_is_whole : (message : Message) → has_float (message_data message) ≡ false
 message_is_whole (of_core answer) = reply_is_whole answer
 message_is_whole (own answer) = reply_is_whole answer
+message_is_whole (grown answer sent) = reply_is_whole sent
 message_is_whole (worded fault text) = ap (λ b. b || false) (published_is_whole fault fault.version fault.related)
 message_is_whole (capabilities id unit name comment types) =
     result_is_whole (id_data id) (initialized_data unit name comment types) (id_is_whole id) (rw (texts_are_whole types) refl)

@@ -13,7 +13,8 @@ use Rattle.serde_json.specs.Written.{compact_text, has_float}
 use Rattle.editor_replies.specs.declared.sending.Outcome.{Outcome}
 use Rattle.editor_replies.specs.declared.sending.Outcome.TheVariants as put
 use Rattle.editor_replies.specs.Sent.{Message, NumbersEdit, OfferData, WordedFault, change_view, offer_view}
-use Rattle.editor_replies.specs.Sent.{call, cancelled, capabilities, changes, colours, notice, of_core, offers, own, some_result, worded}
+use Rattle.editor_replies.specs.Sent.{call, cancelled, capabilities, changes, colours, grown, notice, of_core, offers, own, some_result}
+use Rattle.editor_replies.specs.Sent.{worded}
 
 -- the JSON values of numbers, in order
 abbrev pub number_items : List ℕ → Items
@@ -82,6 +83,7 @@ comment_data comment = object (member (codes "lrls") (comment_object comment) no
 -- what the server can do: the core's capabilities, and those of the editor's server (LSP 3.17, "ServerCapabilities")
 abbrev pub capability_list : Encoding → List ℕ → List (List ℕ) → Data
 capability_list unit comment types = object
+    (member (codes "codeActionProvider") (boolean true)
     (member (codes "completionProvider") (object no_members)
     (member (codes "documentHighlightProvider") (boolean true)
     (member (codes "documentSymbolProvider") (boolean true)
@@ -91,7 +93,7 @@ capability_list unit comment types = object
     (member (codes "positionEncoding") (string (unit_name unit))
     (member (codes "selectionRangeProvider") (boolean true)
     (member (codes "semanticTokensProvider") (colours_options types)
-    (member (codes "textDocumentSync") synchronisation no_members))))))))))
+    (member (codes "textDocumentSync") synchronisation no_members)))))))))))
 
 -- who the server is (LSP 3.17, "InitializeResult")
 abbrev pub server_info : List ℕ → Data
@@ -154,10 +156,17 @@ fault_data fault (Some text) = object
     (member (codes "severity") (number (unsigned 1))
     (member (codes "source") (string (codes "lrls")) no_members)))))
 
+-- JSON values as they are sent, in order
+abbrev pub value_items : List Data → Items
+value_items values = items_of (map without_fractions values)
+
+-- the diagnostics of a document that has a fault: that of its fault, and those behind it
+abbrev pub fault_items : WordedFault → Items
+fault_items fault = item (fault_data fault fault.related) (value_items fault.behind)
+
 -- the diagnostics of a document that has a fault, as they are published (LSP 3.17, "PublishDiagnosticsParams")
 abbrev pub worded_data : WordedFault → Data
-worded_data fault = notice_data (codes "textDocument/publishDiagnostics")
-    (published fault.uri fault.version (array (item (fault_data fault fault.related) no_items)))
+worded_data fault = notice_data (codes "textDocument/publishDiagnostics") (published fault.uri fault.version (array (fault_items fault)))
 
 -- `bare_call id method`: a request to the editor without parameters (JSON-RPC 2.0, "Request object")
 abbrev pub bare_call : List ℕ → List ℕ → Data
@@ -195,6 +204,7 @@ message_data (colours id name numbers) = result_data (id_data id) (colours_resul
 message_data (changes id name change) = result_data (id_data id) (changes_result name change)
 message_data (offers id range found) = result_data (id_data id) (offers_result range found)
 message_data (worded fault text) = worded_data fault
+message_data (grown answer sent) = reply_data sent
 message_data (some_result id value) = result_data (id_data id) (without_fractions value)
 message_data (own answer) = reply_data answer
 message_data (cancelled id) = cancelled_data (id_data id)

@@ -12,13 +12,15 @@ use Rattle.editor_replies.specs.declared.sent.Fault.{Fault as ShownFault}
 use Rattle.editor_replies.specs.declared.sent.Sent.{Sent}
 use Rattle.editor_replies.specs.declared.sent.Sent.TheVariants as put
 
--- the fault of a document in the words of its language, with what more is said of it, if anything is
+-- the fault of a document in the words of its language, with what more is said of it, if anything is, and the diagnostics of the faults
+-- behind it
 pub record WordedFault : Type 0 where
   pub uri : List ℕ
   pub version : Option ℤ
   pub range : Range
   pub words : List ℕ
   pub related : Option (List ℕ)
+  pub behind : List Data
 
 -- a change of a list of numbers: from place `start` on `delete_count` of them give way to others
 pub record NumbersEdit : Type 0 where
@@ -33,11 +35,12 @@ pub record OfferData : Type 0 where
   pub text : List ℕ
 
 -- what is sent: an answer of the core as it is; the core's capabilities with those of the editor's server, the name of the server, what
--- begins a comment in the language, and the types of tokens by their numbers; the colours of a document, with the name of the result, or
--- of some of its lines, without one; what has changed of the colours, with the name of the result; what may stand at a range of a
--- document; the fault of a document in the words of the language, with the text that the core has for it; a result that is any JSON value;
--- another reply of the editor's server, in a form that the core's replies have; that a request was cancelled; or of its own accord a
--- notification of a method with parameters, or a request to the editor with an id, a method, and parameters where it has some
+-- begins a comment in the language, and the types of tokens by their numbers; the colours of a document, with the name of the result, or of
+-- some of its lines, without one; what has changed of the colours, with the name of the result; what may stand at a range of a document;
+-- the fault of a document in the words of the language, with the text that the core has for it; another answer in the place of one of the
+-- core; a result that is any JSON value; another reply of the editor's server, in a form that the core's replies have; that a request was
+-- cancelled; or of its own accord a notification of a method with parameters, or a request to the editor with an id, a method, and
+-- parameters where it has some
 pub data Message : Type 0 where
   of_core : Answer → Message
   capabilities : Ident → Encoding → List ℕ → List ℕ → List (List ℕ) → Message
@@ -45,6 +48,7 @@ pub data Message : Type 0 where
   changes : Ident → List ℕ → Option NumbersEdit → Message
   offers : Ident → Range → List OfferData → Message
   worded : WordedFault → List ℕ → Message
+  grown : Answer → Answer → Message
   some_result : Ident → Data → Message
   own : Answer → Message
   cancelled : Ident → Message
@@ -59,6 +63,7 @@ core_part (colours id name numbers) = []
 core_part (changes id name change) = []
 core_part (offers id range found) = []
 core_part (worded fault text) = published_diagnostics fault.uri fault.version (Some (fault.range, text)) ∷ []
+core_part (grown answer sent) = answer ∷ []
 core_part (some_result id value) = []
 core_part (own answer) = []
 core_part (cancelled id) = []
@@ -83,6 +88,7 @@ fault_view f = record {
   range = f.range;
   words = string_bytes f.words;
   related = option_map (λ text. string_bytes text) f.related;
+  behind = map view f.behind.items;
 }
 
 -- a change of numbers of the code as a `NumbersEdit`
@@ -102,6 +108,7 @@ message_view (put.Colours id name numbers) = colours (id_view id) (option_map (�
 message_view (put.Changes id name change) = changes (id_view id) (string_bytes name) (option_map change_view change)
 message_view (put.Offers id range found) = offers (id_view id) range (map offer_view found.items)
 message_view (put.Fault fault text) = worded (fault_view fault) (string_bytes text)
+message_view (put.Grown reply sent) = grown (reply_view reply) (reply_view sent)
 message_view (put.Result id value) = some_result (id_view id) (view value)
 message_view (put.Own reply) = own (reply_view reply)
 message_view (put.Cancelled id) = cancelled (id_view id)

@@ -3,9 +3,10 @@
 //!
 //! `to_bytes` writes a `Sent` as compact JSON, with the keys of each object in byte order. Its one
 //! error is that memory ran out. It writes part by part: nothing is copied before, and no JSON
-//! value is built but for `outline_value`, `hover_value` and `brackets_value`, which are the
-//! results of their requests, and for the parameters of what is said of the server's own accord
-//! (`told_value`, `watching_value`, `grammar_diagnostics_value`).
+//! value is built but for `outline_value`, `hover_value`, `brackets_value` and `fixes_value`,
+//! which are the results of their requests, for the diagnostics behind the first (`behind_value`),
+//! and for the parameters of what is said of the server's own accord (`told_value`,
+//! `watching_value`, `grammar_diagnostics_value`).
 //!
 //! Words: what the *core* sends is a `Reply`; a *fault* is shown in the words of a language, with
 //! the text that the core has for it kept beside. The *legend* of colours has the types of tokens
@@ -26,7 +27,7 @@
 //! ```
 #![tactic(auto)]
 
-mod faults;
+mod diagnostics;
 mod numbers;
 mod offers;
 mod remarks;
@@ -38,8 +39,8 @@ mod values;
 pub use definitions::{Range, Unit};
 pub use replies::{Id, Reply};
 pub use results::{
-    brackets_value, grammar_diagnostics_value, hover_value, outline_value, told_value,
-    watching_value,
+    behind_value, brackets_value, fixes_value, grammar_diagnostics_value, hover_value,
+    outline_value, told_value, watching_value,
 };
 pub use sending::to_bytes;
 pub use sent::{Change, Fault, Offered, Sent};

@@ -1,10 +1,11 @@
-//! Results that are JSON values: outlines, hovers, and the brackets of a node.
+//! Results that are JSON values: outlines, hovers, the brackets of a node, and what mends faults.
 
 use definitions::{Position, Range};
+use faults::{FaultBehind, Fix};
 use grammar_reports::{GrammarReport, LinePart, ReportedItem};
 use hover::{BracketPair, HoverText, Markup};
 use outline::OutlineSymbol;
-use serde_json::{Value, json};
+use serde_json::{Map, Value, json};
 use std::alloc::{AllocError, Global};
 use std::mem::replace;
 
@@ -126,6 +127,97 @@ pub fn hover_value(
     let range = range_value(alloc, hover.range)?;
     let text = hover.text.as_str();
     json!(in alloc; {"contents": {"kind": kind, "value": text}, "range": range})
+}
+
+/// Something that is said of a place, beside a diagnostic
+/// (LSP 3.17, "DiagnosticRelatedInformation").
+fn related_value(alloc: Global, uri: &str, range: Range, text: &str) -> Result<Value, AllocError> {
+    let range = range_value(alloc, range)?;
+    json!(in alloc; {"location": {"range": range, "uri": uri}, "message": text})
+}
+
+/// What is said beside the diagnostic of a fault behind the first: how the one before it is
+/// mended, and all that was expected.
+fn related_values(alloc: Global, uri: &str, fault: &FaultBehind) -> Result<Vec<Value>, AllocError> {
+    let mut values = Vec::new(alloc);
+    let condition = &fault.condition;
+    values.push(related_value(alloc, uri, condition.range, condition.text.as_str())?)?;
+    if let Some(text) = &fault.related {
+        values.push(related_value(alloc, uri, fault.range, text.as_str())?)?;
+    }
+    Ok(values)
+}
+
+/// The diagnostic of a fault behind the first of a document (LSP 3.17, "Diagnostic"), with what is
+/// said beside it, where the editor shows that. Refuses for memory alone.
+pub fn behind_value(
+    alloc: Global,
+    uri: &str,
+    fault: &FaultBehind,
+    is_related: bool,
+) -> Result<Value, AllocError> {
+    if !is_related {
+        return diagnostic_value(alloc, fault.range, fault.message.as_str());
+    }
+    let related = related_values(alloc, uri, fault)?;
+    let (range, message) = (range_value(alloc, fault.range)?, fault.message.as_str());
+    json!(in alloc; {
+        "message": message,
+        "range": range,
+        "relatedInformation": related,
+        "severity": 1,
+        "source": "lrls"
+    })
+}
+
+/// A diagnostic with nothing beside it (LSP 3.17, "Diagnostic").
+fn diagnostic_value(alloc: Global, range: Range, message: &str) -> Result<Value, AllocError> {
+    let range = range_value(alloc, range)?;
+    json!(in alloc; {"message": message, "range": range, "severity": 1, "source": "lrls"})
+}
+
+/// The text edits of a fix (LSP 3.17, "TextEdit").
+fn edit_values(alloc: Global, fix: &Fix) -> Result<Vec<Value>, AllocError> {
+    let mut values = Vec::new(alloc);
+    for edit in &fix.edits {
+        let (range, text) = (range_value(alloc, edit.range)?, edit.text.as_str());
+        values.push(json!(in alloc; {"newText": text, "range": range})?)?;
+    }
+    Ok(values)
+}
+
+/// What a fix changes in the document of this URI (LSP 3.17, "WorkspaceEdit").
+fn changes_value(alloc: Global, uri: &str, fix: &Fix) -> Result<Value, AllocError> {
+    let mut changes = Map::new(alloc);
+    changes.insert(
+        String::from_str(alloc, uri)?,
+        Value::Array(edit_values(alloc, fix)?),
+    )?;
+    let changes = Value::Object(changes);
+    json!(in alloc; {"changes": changes})
+}
+
+/// What mends a fault (LSP 3.17, "CodeAction").
+fn fix_value(alloc: Global, uri: &str, fix: &Fix) -> Result<Value, AllocError> {
+    let fault = diagnostic_value(alloc, fix.range, fix.message.as_str())?;
+    let (edit, title) = (changes_value(alloc, uri, fix)?, fix.title.as_str());
+    json!(in alloc; {
+        "diagnostics": [fault],
+        "edit": edit,
+        "isPreferred": fix.is_preferred,
+        "kind": "quickfix",
+        "title": title
+    })
+}
+
+/// What mends faults of the document of this URI, in order (LSP 3.17, "Code Action Request").
+/// Refuses for memory alone.
+pub fn fixes_value(alloc: Global, uri: &str, fixes: &[Fix]) -> Result<Value, AllocError> {
+    let mut values = Vec::with_capacity(alloc, fixes.len())?;
+    for fix in fixes {
+        values.push(fix_value(alloc, uri, fix)?)?;
+    }
+    Ok(Value::Array(values))
 }
 
 /// The brackets of a node (LSP 3.17, "DocumentHighlight", of kind 1, a text); none where there are

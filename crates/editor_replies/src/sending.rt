@@ -9,7 +9,7 @@ ghost use Rattle.serde_json.specs.Written.{compact_text};
 ghost use Rattle.editor_replies.specs.Sent.{message_view};
 ghost use Rattle.editor_replies.specs.Sending.{capability_list, changes_option, colours_options, comment_data, comment_object, initialized_data, legend, message_data, no_modifiers, outcome_data, server_info, text_items};
 
-use crate::faults::send_worded;
+use crate::diagnostics::send_worded;
 use crate::numbers::{send_changes, send_colours};
 use crate::offers::send_offers;
 use crate::remarks::{send_call, send_cancelled, send_notice};
@@ -122,7 +122,9 @@ fn send_capability_list<S: Serializer>(
         OnOk result (SendsValue (capability_list unit comment.now types)
         (S.written out.old) (S.written out.new)) }
 {
-    out.begin_map(Some(10))?;
+    out.begin_map(Some(11))?;
+    out.key("codeActionProvider")?;
+    out.bool(true)?;
     out.key("completionProvider")?;
     send_offers_option(out)?;
     out.key("documentHighlightProvider")?;
@@ -236,7 +238,9 @@ fn send_message<S: Serializer>(message: &Sent, out: &mut S) -> Result<(), S::Err
         (S.written out.old) (S.written out.new)) }
 {
     match message {
-        Sent::Core(reply) | Sent::Own(reply) => send_reply(reply, out),
+        Sent::Core(reply) | Sent::Own(reply) | Sent::Grown { sent: reply, .. } => {
+            send_reply(reply, out)
+        }
         Sent::Fault { fault, .. } => send_worded(fault, out),
         Sent::Capabilities {
             id,

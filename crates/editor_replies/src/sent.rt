@@ -16,6 +16,9 @@ pub struct Fault {
     pub words: String,
     /// What stands beside the message (LSP 3.17, "DiagnosticRelatedInformation").
     pub related: Option<String>,
+    /// The diagnostics of the faults behind it. `null` is sent in place of one that has a number
+    /// with a fraction.
+    pub behind: Vec<Value>,
 }
 
 /// A change of a list of numbers: from place `start` on, `delete_count` of them give way to others
@@ -77,6 +80,11 @@ pub enum Sent {
     Fault {
         fault: Fault,
         text: String,
+    },
+    /// Another reply in the place of one of the core: with what a mended copy has besides.
+    Grown {
+        reply: Reply,
+        sent: Reply,
     },
     /// A result that is this JSON value. `null` is sent in place of one that has a number with a
     /// fraction.

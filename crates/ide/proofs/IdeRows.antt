@@ -1,19 +1,19 @@
 -- Worked examples of what the editor's server answers itself, and of what of a message is the core's.
-use Rattle.std.proofs.Common.{◌≡◌, [], ◌∷◌, Option, Some, None, Ok, Err, arith, true, pos, refl}
+use Rattle.std.proofs.Common.{◌≡◌, [], ◌∷◌, Option, Some, None, Ok, Err, arith, true, pos, refl, inl, inr}
 use Rattle.std.proofs.lemmas.List.Elements.{All-cons, All-nil}
 use Rattle.std.specs.Prelude.{codes}
 use Rattle.serde_json.specs.Data.{Data, member, no_members, null, number, object, string, unsigned}
 use Rattle.definitions.specs.declared.Range.{Range}
 use Rattle.definitions.specs.declared.Unit.TheVariants.{Utf16}
 use Rattle.replies.specs.Ids.{numbered}
-use Rattle.replies.specs.Replies.{capabilities_reply, log_message, null_reply, published_diagnostics}
+use Rattle.replies.specs.Replies.{capabilities_reply, folds_reply, log_message, null_reply, published_diagnostics, selections_reply}
 use Rattle.replies.specs.declared.reply.Log.TheVariants.{CloseNotOpen, Lost, TooManyDocuments}
 use Rattle.replies.specs.declared.reply.Loss.TheVariants.{TooLarge}
 use Rattle.rpc.specs.Messages.{accepted, ignored, refused, request, shutdown, stats, unknown}
 use Rattle.sessions.specs.declared.fault.RunFault.TheVariants.{Write}
 use Rattle.sessions.specs.declared.phase.Phase.TheVariants.{New, Ready, Down}
 use Rattle.ide.specs.Asked.{about, about_document, cancelled_of, its_colours, lines_of, misfit}
-use Rattle.editor_replies.specs.Sent.{Message, NumbersEdit, call, cancelled, capabilities, changes, colours, core_answers, core_part, is_remark, notice, of_core, own, worded}
+use Rattle.editor_replies.specs.Sent.{Message, NumbersEdit, call, cancelled, capabilities, changes, colours, core_answers, core_part, grown, is_remark, notice, of_core, own, worded}
 use Rattle.ide.specs.Runs.{comes, contents_of, looks}
 use Rattle.ide.specs.Sessions.{IsTaken}
 use Rattle.ide.specs.Shown.{AreShown, AreTold, IsShown, ShownData, shown_fault}
@@ -60,7 +60,7 @@ sent :
     ≡ capabilities_reply (numbered (pos 0)) Utf16 ∷ null_reply (numbered (pos 2)) ∷ []
 sent = refl
 
-fault : core_part (worded (shown_fault (97 ∷ []) (Some (pos 1)) range (98 ∷ []) None) (99 ∷ []))
+fault : core_part (worded (shown_fault (97 ∷ []) (Some (pos 1)) range (98 ∷ []) None (null ∷ [])) (99 ∷ []))
     ≡ published_diagnostics (97 ∷ []) (Some (pos 1)) (Some (range, 99 ∷ [])) ∷ []
 fault = refl
 
@@ -81,11 +81,31 @@ capable_alone : IsShown shown (capabilities_reply (numbered (pos 0)) Utf16) (of_
 capable_alone e = cc
 
 -- a fault keeps its place, and the core's text
-with_words : IsShown shown (published_diagnostics (97 ∷ []) None (Some (range, 99 ∷ []))) (worded (shown_fault (97 ∷ []) None range (98 ∷ []) (Some (100 ∷ []))) (99 ∷ []))
-with_words = (98 ∷ [], Some (100 ∷ []), refl)
+with_words : IsShown shown (published_diagnostics (97 ∷ []) None (Some (range, 99 ∷ []))) (worded (shown_fault (97 ∷ []) None range (98 ∷ []) (Some (100 ∷ [])) (null ∷ [])) (99 ∷ []))
+with_words = (98 ∷ [], Some (100 ∷ []), null ∷ [], refl)
 
-other_text : IsShown shown (published_diagnostics (97 ∷ []) None (Some (range, 99 ∷ []))) (worded (shown_fault (97 ∷ []) None range (98 ∷ []) None) []) → ⊥
-other_text e = let is = e.2 in cc
+other_text : IsShown shown (published_diagnostics (97 ∷ []) None (Some (range, 99 ∷ []))) (worded (shown_fault (97 ∷ []) None range (98 ∷ []) None []) []) → ⊥
+other_text e = let is = e.3 in cc
+
+-- folds stay, and more may come behind them
+more_folds : IsShown shown (folds_reply (numbered (pos 2)) ((1, 4) ∷ [])) (grown (folds_reply (numbered (pos 2)) ((1, 4) ∷ [])) (folds_reply (numbered (pos 2)) ((1, 4) ∷ (6, 8) ∷ [])))
+more_folds = ((6, 8) ∷ [], inr refl)
+
+fewer_folds : IsShown shown (folds_reply (numbered (pos 2)) ((1, 4) ∷ [])) (grown (folds_reply (numbered (pos 2)) ((1, 4) ∷ [])) (folds_reply (numbered (pos 2)) [])) → ⊥
+fewer_folds (more, inl is) = cc
+fewer_folds (more, inr is) = cc
+
+-- what is sent in the place of selections are as many
+other_selection : IsShown shown (selections_reply (numbered (pos 2)) ([] ∷ [])) (grown (selections_reply (numbered (pos 2)) ([] ∷ [])) (selections_reply (numbered (pos 2)) ((range ∷ []) ∷ [])))
+other_selection = ((range ∷ []) ∷ [], refl, inr refl)
+
+too_few_selections : IsShown shown (selections_reply (numbered (pos 2)) ([] ∷ [])) (grown (selections_reply (numbered (pos 2)) ([] ∷ [])) (selections_reply (numbered (pos 2)) [])) → ⊥
+too_few_selections (others, same, inl is) = cc
+too_few_selections (others, same, inr is) = cc
+
+-- the core's part of such an answer is the core's
+of_grown : core_part (grown (folds_reply (numbered (pos 2)) []) (folds_reply (numbered (pos 2)) ((6, 8) ∷ []))) ≡ folds_reply (numbered (pos 2)) [] ∷ []
+of_grown = refl
 
 -- all else is sent as it is
 as_it_is : IsShown shown (null_reply (numbered (pos 2))) (of_core (null_reply (numbered (pos 2))))

@@ -1,13 +1,20 @@
 -- How the core's answers are shown, one after another.
-use Rattle.ide.proofs.Common.{◌≡◌, List, [], ◌∷◌, ◌++◌, refl, ap, sym, ◌∙◌, append-nil, append_assoc, Some, flat_map-append, Message, core_answers, core_part, AreShown, IsShown, ShownData}
-use Rattle.replies.specs.Replies.{Answer, capabilities_reply, log_message, published_diagnostics}
+use Rattle.ide.proofs.Common.{◌≡◌, List, [], ◌∷◌, ◌++◌, refl, ap, sym, inl, inr, ◌∙◌, append-nil, append_assoc, Some, flat_map-append, Message, core_answers, core_part, AreShown, IsShown, ShownData}
+use Rattle.replies.specs.Replies.{Answer, capabilities_reply, folds_reply, log_message, published_diagnostics, selections_reply}
 use Rattle.replies.specs.declared.reply.Log.TheVariants.{Lost, TooManyDocuments}
-use Rattle.ide.specs.Shown.{AreTold, IsPushed}
+use Rattle.ide.specs.Shown.{AreTold, IsGrown, IsPushed}
+
+-- so it is where another one may be sent in its place
+part_of_grown : (answer other : Answer) (message : Message) → IsGrown answer other message → core_part message ≡ answer ∷ []
+part_of_grown answer other message (inl is) = ap core_part is
+part_of_grown answer other message (inr is) = ap core_part is
 
 -- what is shown of an answer is the answer, without what the editor's server adds
 part_of : (shown : ShownData) (answer : Answer) (message : Message) → IsShown shown answer message → core_part message ≡ answer ∷ []
 part_of shown (capabilities_reply id unit) message is = ap core_part is
-part_of shown (published_diagnostics uri version (Some d)) message is = ap core_part is.2
+part_of shown (published_diagnostics uri version (Some d)) message is = ap core_part is.3
+part_of shown (folds_reply id pairs) message is = part_of_grown (folds_reply id pairs) (folds_reply id (pairs ++ is.0)) message is.1
+part_of shown (selections_reply id selections) message is = part_of_grown (selections_reply id selections) (selections_reply id is.0) message is.2
 part_of shown answer message is = ap core_part is
 
 -- nothing that is told besides is the core's

@@ -9,7 +9,7 @@ use Rattle.rpc.specs.Unit.{Unit as Encoding}
 use Rattle.sessions.specs.Documents.{DocumentState, is_lost, is_open}
 use Rattle.sessions.specs.declared.phase.Phase.{Phase}
 use Rattle.sessions.specs.declared.phase.Phase.TheVariants.{New, Ready, Down}
-use Rattle.ide.specs.Asked.{Asked, Question, about, misfit, its_brackets, its_changes, its_colours, its_hover, its_lines, its_offers, its_outline}
+use Rattle.ide.specs.Asked.{Asked, Question, about, misfit, its_brackets, its_changes, its_colours, its_fixes, its_hover, its_lines, its_offers, its_outline}
 use Rattle.ide.specs.Steps.{AreChanges, IsReplyAbout, IsReplyOf, since}
 use Rattle.ide.specs.Runs.{EachRunIsTheCores}
 
@@ -36,6 +36,7 @@ of_open old id uri d (its_offers place) message new r = (ap core_part r.0.5, ap 
 of_open old id uri d its_outline message new r = (ap core_part r.0.1, ap (λ (s : IdeState). s.core) r.1)
 of_open old id uri d (its_hover place) message new r = (ap core_part r.0.1, ap (λ (s : IdeState). s.core) r.1)
 of_open old id uri d (its_brackets place) message new r = (ap core_part r.0.1, ap (λ (s : IdeState). s.core) r.1)
+of_open old id uri d (its_fixes range) message new r = (ap core_part r.0.1, ap (λ (s : IdeState). s.core) r.1)
 
 of_document : (old : IdeState) (id : Ident) (uri : List ℕ) (document : Option DocumentState) (question : Question) (message : Message) (new : IdeState)
     → IsReplyAbout old id uri document question message new → IsOwn old message new

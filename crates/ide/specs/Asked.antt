@@ -16,7 +16,7 @@ use Rattle.ide.specs.declared.asked.Question.TheVariants as wish
 
 -- what is asked of a document: its colours; what has changed of them since the result of this name; those of the lines from one up to
 -- another, that one left out; its outline; or at a position what may follow, what stands there, or the brackets of one node of which one is
--- there
+-- there; or what mends the faults at a range
 pub data Question : Type 0 where
   its_colours : Question
   its_changes : List ℕ → Question
@@ -25,6 +25,7 @@ pub data Question : Type 0 where
   its_offers : Position → Question
   its_hover : Position → Question
   its_brackets : Position → Question
+  its_fixes : Range → Question
 
 -- what a request asks: of the document of a URI this; or its parameters don't fit its method
 pub data Asked : Type 0 where
@@ -41,9 +42,13 @@ abbrev pub about_document : Option (List ℕ) → Option Question → Asked
 about_document (Some uri) (Some question) = about uri question
 about_document _ _ = misfit
 
+-- the range that is asked about (LSP 3.17, "CodeActionParams")
+abbrev pub range_asked : Data → Option Range
+range_asked d = option_and_then range_of (get (codes "range") d)
+
 -- what `textDocument/semanticTokens/range` asks of a document, by its parameters (LSP 3.17, "SemanticTokensRangeParams")
 abbrev pub lines_asked : Data → Option Question
-lines_asked d = option_map (λ r. its_lines (lines_of r).0 (lines_of r).1) (option_and_then range_of (get (codes "range") d))
+lines_asked d = option_map (λ r. its_lines (lines_of r).0 (lines_of r).1) (range_asked d)
 
 -- the name of the result since which changes are asked for (LSP 3.17, "SemanticTokensDeltaParams")
 abbrev pub name_asked : Data → Option (List ℕ)
@@ -65,8 +70,10 @@ asked_of method d =
     then Some (about_document (uri_at d) (option_map its_offers (place_asked d))) else (
     if bytes_eq method (codes "textDocument/hover") then Some (about_document (uri_at d) (option_map its_hover (place_asked d))) else (
     if bytes_eq method (codes "textDocument/documentHighlight")
-    then Some (about_document (uri_at d) (option_map its_brackets (place_asked d))) else
-    None))))))
+    then Some (about_document (uri_at d) (option_map its_brackets (place_asked d))) else (
+    if bytes_eq method (codes "textDocument/codeAction")
+    then Some (about_document (uri_at d) (option_map its_fixes (range_asked d))) else
+    None)))))))
 
 -- what a JSON value asks, by its method and parameters
 abbrev pub asked_by : Data → Option Asked
@@ -85,6 +92,7 @@ question_view wish.Outline = its_outline
 question_view (wish.Offers position) = its_offers position
 question_view (wish.Hover position) = its_hover position
 question_view (wish.Brackets position) = its_brackets position
+question_view (wish.Fixes range) = its_fixes range
 
 -- what a request of the code asks, as `Asked`
 abbrev pub asked_view : Put → Asked

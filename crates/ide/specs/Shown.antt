@@ -1,10 +1,10 @@
 -- How an editor is shown what the core answers.
-use Rattle.std.specs.Prelude.{◌≡◌, ℕ, ℤ, List, [], ◌∷◌, ◌++◌, codes, Option, Some}
+use Rattle.std.specs.Prelude.{◌≡◌, ◌⊎◌, ℕ, ℤ, List, [], ◌∷◌, ◌++◌, codes, length, Option, Some}
 use Rattle.serde_json.specs.Data.{Data}
 use Rattle.definitions.specs.declared.Range.{Range}
-use Rattle.editor_replies.specs.Sent.{Message, WordedFault, capabilities, notice, of_core, worded}
+use Rattle.editor_replies.specs.Sent.{Message, WordedFault, capabilities, grown, notice, of_core, worded}
 use Rattle.settings.specs.declared.expressions.RuleText.{RuleText}
-use Rattle.replies.specs.Replies.{Answer, capabilities_reply, log_message, published_diagnostics}
+use Rattle.replies.specs.Replies.{Answer, capabilities_reply, folds_reply, log_message, published_diagnostics, selections_reply}
 use Rattle.replies.specs.declared.reply.Log.TheVariants.{Lost, TooManyDocuments}
 
 -- what an editor is shown of a language besides its texts: the name of the server, what begins a comment, the types of tokens by their
@@ -16,17 +16,28 @@ pub record ShownData : Type 0 where
   pub palette : List (Option ℕ)
   pub texts : List (Option RuleText)
 
--- `shown_fault uri version range words related`: a fault of the core at its place, with these words
-abbrev pub shown_fault : List ℕ → Option ℤ → Range → List ℕ → Option (List ℕ) → WordedFault
-shown_fault uri version range words related =
-    record { uri = uri; version = version; range = range; words = words; related = related }
+-- `shown_fault uri version range words related behind`: a fault of the core at its place, with these words, and the diagnostics behind it
+abbrev pub shown_fault : List ℕ → Option ℤ → Range → List ℕ → Option (List ℕ) → List Data → WordedFault
+shown_fault uri version range words related behind =
+    record { uri = uri; version = version; range = range; words = words; related = related; behind = behind }
+
+-- `IsGrown answer other message`: the answer is sent as it is, or the other one in its place
+abbrev pub IsGrown : Answer → Answer → Message → Type 0
+IsGrown answer other message = (message ≡ of_core answer) ⊎ (message ≡ grown answer other)
 
 -- `IsShown shown answer message`: how an answer of the core is sent: its capabilities with those of the editor's server; a fault with some
--- words in the place of the core's text; and all else as it is
+-- words in the place of the core's text, and with some diagnostics of faults behind it; folds with some more; of selections as many others,
+-- if any; and all else as it is
 abbrev pub IsShown : ShownData → Answer → Message → Type 0
 IsShown shown (capabilities_reply id unit) message = message ≡ capabilities id unit shown.name shown.comment shown.types
 IsShown shown (published_diagnostics uri version (Some d)) message =
-    (words : List ℕ) × (related : Option (List ℕ)) × (message ≡ worded (shown_fault uri version d.0 words related) d.1)
+    (words : List ℕ) × (related : Option (List ℕ)) × (behind : List Data)
+    × (message ≡ worded (shown_fault uri version d.0 words related behind) d.1)
+IsShown shown (folds_reply id pairs) message =
+    (more : List (ℕ × ℕ)) × IsGrown (folds_reply id pairs) (folds_reply id (pairs ++ more)) message
+IsShown shown (selections_reply id selections) message =
+    (others : List (List Range)) × (length others ≡ length selections)
+    × IsGrown (selections_reply id selections) (selections_reply id others) message
 IsShown shown answer message = message ≡ of_core answer
 
 -- a text is shown to who edits, and nothing else (LSP 3.17, "ShowMessage Notification")

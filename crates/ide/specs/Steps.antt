@@ -21,8 +21,8 @@ use Rattle.sessions.specs.Documents.{DocumentState, is_lost, is_open}
 use Rattle.sessions.specs.Steps.{Step}
 use Rattle.sessions.specs.declared.phase.Phase.{Phase}
 use Rattle.sessions.specs.declared.phase.Phase.TheVariants.{Ready}
-use Rattle.ide.specs.Asked.{Asked, Question, about, asked_in, its_brackets, its_changes, its_colours, its_hover, its_lines, its_offers}
-use Rattle.ide.specs.Asked.{its_outline, misfit}
+use Rattle.ide.specs.Asked.{Asked, Question, about, asked_in, its_brackets, its_changes, its_colours, its_fixes, its_hover, its_lines}
+use Rattle.ide.specs.Asked.{its_offers, its_outline, misfit}
 use Rattle.editor_replies.specs.Sent.{Message, NumbersEdit, OfferData, cancelled, changes, colours, offers, own, some_result}
 use Rattle.ide.specs.Shown.{AreShown}
 use Rattle.ide.specs.States.{IdeState, Told, next}
@@ -97,7 +97,8 @@ abbrev pub IsSomeResult : Ident → Message → Type 0
 IsSomeResult id message = (value : Data) × (message ≡ some_result id value)
 
 -- `IsReplyOf old id uri d question message new`: what is replied about the open document of a URI, and what stays of it: its colours,
--- what has changed of them, or those of some lines; what may follow at a position; or some outline, text about a position, or brackets
+-- what has changed of them, or those of some lines; what may follow at a position; or some outline, text about a position, brackets, or
+-- fixes
 abbrev pub IsReplyOf : IdeState → Ident → List ℕ → OpenDocument → Question → Message → IdeState → Type 0
 IsReplyOf old id uri d its_colours message new =
     (numbers : List ℕ) × AreColours old d numbers × (message ≡ colours id (Some (next_name old)) numbers)
@@ -111,6 +112,7 @@ IsReplyOf old id uri d (its_offers place) message new = AreOffersAt old id d pla
 IsReplyOf old id uri d its_outline message new = IsSomeResult id message × (new ≡ old)
 IsReplyOf old id uri d (its_hover place) message new = IsSomeResult id message × (new ≡ old)
 IsReplyOf old id uri d (its_brackets place) message new = IsSomeResult id message × (new ≡ old)
+IsReplyOf old id uri d (its_fixes range) message new = IsSomeResult id message × (new ≡ old)
 
 -- `IsReplyAbout old id uri document question message new`: what is replied about a document: that it isn't open; or why it is lost;
 -- or, where it is open, what `IsReplyOf` has

@@ -3,9 +3,9 @@
 ghost use Rattle.std.specs.Prelude.{◌≡◌, option_map, IfOk};
 ghost use Rattle.serde_json.specs.View.{view};
 ghost use Rattle.rpc.specs.Reading.{uri_at};
-ghost use Rattle.ide.specs.Asked.{about_document, asked_by, asked_in, asked_of, asked_view, its_changes, lines_asked, name_asked, place_asked, question_view};
+ghost use Rattle.ide.specs.Asked.{about_document, asked_by, asked_in, asked_of, asked_view, its_changes, lines_asked, name_asked, place_asked, question_view, range_asked};
 
-use definitions::Position;
+use definitions::{Position, Range};
 use rpc::{position_at, range_of, text_at, uri_at};
 use serde_json::Value;
 use std::alloc::{AllocError, Global};
@@ -29,6 +29,8 @@ pub enum Question {
     Hover(Position),
     /// The brackets of one node, of which one is there (LSP 3.17, "DocumentHighlightParams").
     Brackets(Position),
+    /// What mends the faults at this range (LSP 3.17, "CodeActionParams").
+    Fixes(Range),
 }
 
 /// What a request asks.
@@ -60,7 +62,7 @@ fn about_document(
 fn lines_asked(params: &Value) -> Option<Question>
     ensures { option_map question_view result ≡ lines_asked (view params.now) }
 {
-    let range = range_of(params.get("range")?)?;
+    let range = range_asked(params)?;
     let (start, end) = (range.start.line, range.end.line);
     Some(Question::Lines(start.min(end), start.max(end).saturating_add(1)))
 }
@@ -70,6 +72,13 @@ fn place_asked(params: &Value) -> Option<Position>
     ensures { result ≡ place_asked (view params.now) }
 {
     position_at(params, "position")
+}
+
+/// The range that is asked about (LSP 3.17, "CodeActionParams").
+fn range_asked(params: &Value) -> Option<Range>
+    ensures { result ≡ range_asked (view params.now) }
+{
+    range_of(params.get("range")?)
 }
 
 /// What `textDocument/semanticTokens/full/delta` asks: the changes since the result that it names.
@@ -96,6 +105,7 @@ fn asked_of(alloc: Global, method: &str, params: &Value) -> Result<Option<Asked>
         "textDocument/completion" => place_asked(params).map(Question::Offers),
         "textDocument/hover" => place_asked(params).map(Question::Hover),
         "textDocument/documentHighlight" => place_asked(params).map(Question::Brackets),
+        "textDocument/codeAction" => range_asked(params).map(Question::Fixes),
         _ => return Ok(None),
     };
     Ok(Some(about_document(alloc, params, question)?))

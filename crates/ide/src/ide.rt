@@ -5,11 +5,11 @@ ghost use Rattle.std.specs.FinMap.{get};
 ghost use Rattle.docs.specs.Docs.{open_document, IsCurrent};
 ghost use Rattle.rpc.specs.Ids.{Ident, id_view};
 ghost use Rattle.rpc.specs.Messages.{received_of, Received};
-ghost use Rattle.rpc.specs.Replies.{diagnostic_view, error_reply, published_diagnostics, reply_view};
+ghost use Rattle.rpc.specs.Replies.{diagnostic_view, error_reply, folds_reply, published_diagnostics, reply_view, selections_reply};
 ghost use Rattle.server.specs.States.{language_of};
 ghost use Rattle.sessions.specs.declared.phase.Phase.TheVariants.{Ready};
 ghost use Rattle.ide.specs.Asked.{Asked as Request, asked_view, question_view};
-ghost use Rattle.editor_replies.specs.Sent.{colours, is_remark, message_view, own};
+ghost use Rattle.editor_replies.specs.Sent.{colours, grown, is_remark, message_view, own};
 ghost use Rattle.ide.specs.Servers.{after, comment_of, later_view, sent, shown_data, state_of, written_view};
 ghost use Rattle.ide.specs.Shown.{AreShown, IsPushed, IsShown};
 ghost use Rattle.ide.specs.States.{first_of};
@@ -19,8 +19,10 @@ ghost use Rattle.ide.specs.Written.{AfterLook, AreRemarks, IsReplaced};
 use crate::asked::{Asked, Question};
 use crate::cancels::{copy_of, is_cancelled};
 use crate::client::Client;
-use crate::content::{Content, Own, open_uris, opened_by, question_id, read_content};
-use crate::faults::{Words, fault_words};
+use crate::content::{
+    Content, Own, Subject, open_uris, opened_by, question_id, read_content, subject_in, subject_of,
+};
+use crate::faulty::{ToldFault, fixes_at, more_folds, told_fault};
 use crate::looked::{Looked, Notice, Written};
 use crate::losses::{lost_by, told_about};
 use crate::offered::all_offered;
@@ -33,10 +35,12 @@ use completion::{Offers, offers_at};
 use definitions::{Diagnostic, Position, Range, Unit};
 use docs::{Doc, Language};
 use editor_replies::{
-    Fault, Sent, Value, brackets_value, hover_value, outline_value, watching_value,
+    Fault, Sent, Value, brackets_value, fixes_value, hover_value, outline_value, watching_value,
 };
+use faults::mended;
 use hover::{Markup, brackets, hover};
-use outline::outline;
+use mending::Mending;
+use outline::{mended_selections, outline};
 use rpc::{Id, Message, Refusal, Reply, RpcFault};
 use server::{Phase, Server};
 use std::alloc::{AllocError, Global};
@@ -55,6 +59,15 @@ pub struct Ide {
     uris: Vec<String>,
     /// The editor was asked to watch the files of the language.
     is_watched: bool,
+    /// The last mended copy that was asked for, until a document may be another one.
+    copied: Option<Copied>,
+}
+
+/// The mended copy of the document of a URI; none where it has no fault.
+#[derive(Drop)]
+struct Copied {
+    uri: String,
+    mending: Option<Mending>,
 }
 
 /// A reply about a document, and the colours that are told by it, where they are a whole
@@ -113,6 +126,52 @@ fn joined(
     Ok(first)
 }
 
+/// The core's folds with these behind them.
+fn grown_folds(
+    alloc: Global,
+    id: Id,
+    mut pairs: Vec<(u32, u32)>,
+    mut more: Vec<(u32, u32)>,
+) -> Result<Sent, AllocError>
+    ensures { let core = folds_reply (id_view id) pairs.items in
+        let all = folds_reply (id_view id) (pairs.items ++ more.items) in
+        IfOk result (λ s. message_view s ≡ grown core all) }
+{
+    let reply = Reply::Folds {
+        id: copy_of(alloc, &id)?,
+        pairs: Vec::from_slice(alloc, &pairs)?,
+    };
+    pairs.append(&mut more)?;
+    Ok(Sent::Grown {
+        reply,
+        sent: Reply::Folds { id, pairs },
+    })
+}
+
+/// The core's selections, in whose place these are sent.
+fn grown_selections(
+    alloc: Global,
+    id: Id,
+    selections: Vec<Vec<Range>>,
+    others: Vec<Vec<Range>>,
+) -> Result<Sent, AllocError>
+    ensures { let core = selections_reply (id_view id) (map (λ r. r.items) selections.items) in
+        let sent = selections_reply (id_view id) (map (λ r. r.items) others.items) in
+        IfOk result (λ s. message_view s ≡ grown core sent) }
+{
+    let reply = Reply::Selections {
+        id: copy_of(alloc, &id)?,
+        selections,
+    };
+    Ok(Sent::Grown {
+        reply,
+        sent: Reply::Selections {
+            id,
+            selections: others,
+        },
+    })
+}
+
 /// The request to watch the files of these paths
 /// (LSP 3.17, "DidChangeWatchedFiles Notification").
 fn watch(alloc: Global, paths: &[String]) -> Result<Sent, AllocError>
@@ -138,7 +197,56 @@ impl Ide {
             told: None,
             uris: Vec::new(alloc),
             is_watched: false,
+            copied: None,
         }
+    }
+
+    /// The mended copy of the document of this URI, where it is kept.
+    fn kept(&self, uri: &str) -> Option<&Mending> {
+        match &self.copied {
+            Some(copied) if copied.uri.as_str() == uri => copied.mending.as_ref(),
+            _ => None,
+        }
+    }
+
+    /// Whether it is known whether the document of this URI has a mended copy.
+    fn is_kept(&self, uri: &str) -> bool {
+        match &self.copied {
+            Some(copied) => copied.uri.as_str() == uri,
+            None => false,
+        }
+    }
+
+    /// Keeps the mended copy of the document of this URI, if it is open and has a fault.
+    fn keep_copy(&mut self, alloc: Global, uri: &str) -> Result<(), AllocError>
+        ensures { state_of self.new ≡ state_of self.old }
+    {
+        if self.is_kept(uri) {
+            return Ok(());
+        }
+        self.copied = None;
+        let mending = match self.core.document(uri) {
+            Ok(doc) => mended(alloc, self.core.language(), &self.shown.texts, doc)?,
+            Err(_) => None,
+        };
+        self.copied = Some(Copied {
+            uri: String::from_str(alloc, uri)?,
+            mending,
+        });
+        Ok(())
+    }
+
+    /// Keeps the mended copy that is asked for in answering a message.
+    fn keep_copy_of(&mut self, alloc: Global, about: &Subject) -> Result<(), AllocError>
+        ensures { state_of self.new ≡ state_of self.old }
+    {
+        if !about.is_request {
+            self.copied = None;
+        }
+        if about.uri.is_empty() {
+            return Ok(());
+        }
+        self.keep_copy(alloc, about.uri.as_str())
     }
 
     /// Whether it is initialized, and isn't shut down.
@@ -247,7 +355,8 @@ impl Ide {
     fn outline(&self, alloc: Global, uri: &str, doc: &Doc) -> Result<Value, AllocError>
         requires { IsCurrent (language_of self.now.core) doc.now }
     {
-        let symbols = outline(alloc, self.core.language(), &self.shown.settings, doc)?;
+        let (language, settings) = (self.core.language(), &self.shown.settings);
+        let symbols = outline(alloc, language, settings, doc, self.kept(uri))?;
         outline_value(alloc, uri, &symbols, self.client.nested)
     }
 
@@ -271,6 +380,15 @@ impl Ide {
     {
         let found = brackets(alloc, self.core.language(), doc, position)?;
         brackets_value(alloc, &found)
+    }
+
+    /// What mends the faults at a range of an open document.
+    fn fixes(&self, alloc: Global, uri: &str, doc: &Doc, range: Range) -> Result<Value, AllocError>
+        requires { IsCurrent (language_of self.now.core) doc.now }
+    {
+        let language = self.core.language();
+        let fixes = fixes_at(alloc, language, &self.shown, doc, self.kept(uri), range)?;
+        fixes_value(alloc, uri, &fixes)
     }
 
     /// The reply to a question about an open document.
@@ -316,6 +434,10 @@ impl Ide {
             Question::Brackets(position) => Sent::Result {
                 id,
                 value: self.brackets(alloc, doc, *position)?,
+            },
+            Question::Fixes(range) => Sent::Result {
+                id,
+                value: self.fixes(alloc, uri, doc, *range)?,
             },
         };
         Ok(Replied {
@@ -370,6 +492,9 @@ impl Ide {
             IfOk result (λ s.
             AnswersItself (state_of self.old) request (sent s) s.stop (state_of self.new)) }
     {
+        if let Asked::About(uri, Question::Outline | Question::Fixes(_)) = &asked {
+            self.keep_copy(alloc, uri.as_str())?;
+        }
         let Replied { message, told } = self.reply(alloc, id, asked)?;
         let sending = one(alloc, message)?;
         if let Some(told) = told {
@@ -390,21 +515,26 @@ impl Ide {
         }
     }
 
-    /// The words of the fault of the document of this URI; where it has none, the core's.
-    fn words_of(&self, alloc: Global, uri: &str, text: &str) -> Result<Words, AllocError> {
+    /// What is said of the fault of the document of this URI, and of those behind it; where it has
+    /// none, the core's text.
+    fn told_of(&self, alloc: Global, uri: &str, text: &str) -> Result<ToldFault, AllocError> {
         if let Ok(doc) = self.core.document(uri)
-            && let Some(words) = fault_words(
+            && let Some(told) = told_fault(
                 alloc,
                 self.core.language(),
-                &self.shown.settings,
+                &self.shown,
                 doc,
+                uri,
+                self.kept(uri),
+                self.client.related,
             )?
         {
-            return Ok(words);
+            return Ok(told);
         }
-        Ok(Words {
+        Ok(ToldFault {
             message: String::from_str(alloc, text)?,
             related: None,
+            behind: Vec::new(alloc),
         })
     }
 
@@ -421,16 +551,18 @@ impl Ide {
             IfOk result (λ s. IsShown (shown_data self.now.shown) answer (message_view s)) }
     {
         let Diagnostic { range, message } = fault;
-        let Words {
+        let ToldFault {
             message: words,
             related,
-        } = self.words_of(alloc, uri.as_str(), message.as_str())?;
+            behind,
+        } = self.told_of(alloc, uri.as_str(), message.as_str())?;
         let fault = Fault {
             uri,
             version,
             range,
             words,
-            related: if self.client.related { related } else { None },
+            related,
+            behind,
         };
         Ok(Sent::Fault {
             fault,
@@ -460,8 +592,62 @@ impl Ide {
         }
     }
 
-    /// An answer of the core as it is sent.
-    fn shown_of(&self, alloc: Global, reply: Reply) -> Result<Sent, AllocError>
+    /// Folds of the core as they are sent: with those that the mended copy of the document has
+    /// besides.
+    fn folds(
+        &self,
+        alloc: Global,
+        id: Id,
+        pairs: Vec<(u32, u32)>,
+        about: &Subject,
+    ) -> Result<Sent, AllocError>
+        ensures { let answer = folds_reply (id_view id) pairs.items in
+            IfOk result (λ s. IsShown (shown_data self.now.shown) answer (message_view s)) }
+    {
+        let uri = about.uri.as_str();
+        let more = match (self.core.document(uri), self.kept(uri)) {
+            (Ok(doc), Some(mending)) => {
+                more_folds(alloc, self.core.language(), doc, mending, &pairs)?
+            }
+            _ => Vec::new(alloc),
+        };
+        if more.is_empty() {
+            return Ok(Sent::Core(Reply::Folds { id, pairs }));
+        }
+        grown_folds(alloc, id, pairs, more)
+    }
+
+    /// Selections of the core as they are sent: in their place those of the mended copy of the
+    /// document, where it has one.
+    fn selections(
+        &self,
+        alloc: Global,
+        id: Id,
+        selections: Vec<Vec<Range>>,
+        about: &Subject,
+    ) -> Result<Sent, AllocError>
+        ensures { let ranges = map (λ r. r.items) selections.items in
+            let answer = selections_reply (id_view id) ranges in
+            IfOk result (λ s. IsShown (shown_data self.now.shown) answer (message_view s)) }
+    {
+        let (uri, positions) = (about.uri.as_str(), &about.positions);
+        let others = match (self.core.document(uri), self.kept(uri)) {
+            (Ok(doc), Some(mending)) => {
+                let language = self.core.language();
+                Some(mended_selections(alloc, language, doc, mending, positions)?)
+            }
+            _ => None,
+        };
+        match others {
+            Some(others) if others.len() == selections.len() => {
+                grown_selections(alloc, id, selections, others)
+            }
+            _ => Ok(Sent::Core(Reply::Selections { id, selections })),
+        }
+    }
+
+    /// An answer of the core as it is sent, where the message is about this.
+    fn shown_of(&self, alloc: Global, reply: Reply, about: &Subject) -> Result<Sent, AllocError>
         ensures { IfOk result (λ s.
             IsShown (shown_data self.now.shown) (reply_view reply) (message_view s)) }
     {
@@ -478,6 +664,8 @@ impl Ide {
                 version,
                 diagnostic,
             } => self.published(alloc, uri, version, diagnostic),
+            Reply::Folds { id, pairs } => self.folds(alloc, id, pairs, about),
+            Reply::Selections { id, selections } => self.selections(alloc, id, selections, about),
             reply => Ok(Sent::Core(reply)),
         }
     }
@@ -490,13 +678,14 @@ impl Ide {
         messages: &mut Vec<Sent>,
         reply: Reply,
         uri: &str,
+        about: &Subject,
     ) -> Result<(), AllocError>
         ensures { let old = map message_view messages.old.items in
             let new = map message_view messages.new.items in
             OnOk result (IsPushed (shown_data self.now.shown) (reply_view reply) old new) }
     {
         let told = told_about(alloc, &reply, uri)?;
-        messages.push(self.shown_of(alloc, reply)?)?;
+        messages.push(self.shown_of(alloc, reply, about)?)?;
         if let Some(told) = told {
             messages.push(told)?;
         }
@@ -504,8 +693,15 @@ impl Ide {
     }
 
     /// What the core has answered as it is sent, each answer with what who edits is told of it.
-    /// `uri` is that of the document that the message opens, where it opens one.
-    fn show(&self, alloc: Global, replies: Vec<Reply>, uri: &str) -> Result<Vec<Sent>, AllocError>
+    /// `uri` is that of the document that the message opens, where it opens one, and `about` what
+    /// the message is about.
+    fn show(
+        &self,
+        alloc: Global,
+        replies: Vec<Reply>,
+        uri: &str,
+        about: &Subject,
+    ) -> Result<Vec<Sent>, AllocError>
         ensures { let answers = map reply_view replies.items in
             IfOk result (λ messages. AreShown (shown_data self.now.shown) answers
             (map message_view messages.items)) }
@@ -516,7 +712,7 @@ impl Ide {
             if let Some(uri) = lost_by(alloc, &reply)? {
                 lost = uri;
             }
-            self.push_shown(alloc, &mut messages, reply, lost.as_str())?;
+            self.push_shown(alloc, &mut messages, reply, lost.as_str(), about)?;
         }
         Ok(messages)
     }
@@ -546,9 +742,11 @@ impl Ide {
             × StepsAsShown old received (sent s) s.stop new) }
     {
         let opened = opened_by(alloc, &message)?;
+        let about = subject_of(alloc, &message)?;
         let out = self.core.handle(alloc, message)?;
         let uri = self.note_opened(alloc, opened)?;
-        let messages = self.show(alloc, out.replies, uri.as_str())?;
+        self.keep_copy_of(alloc, &about)?;
+        let messages = self.show(alloc, out.replies, uri.as_str(), &about)?;
         Ok(Sending {
             messages,
             stop: out.stop,
@@ -605,7 +803,8 @@ impl Ide {
         self.core = server;
         self.shown = shown;
         self.told = None;
-        self.show(alloc, replies, "")
+        self.copied = None;
+        self.show(alloc, replies, "", &subject_in(alloc, "", false)?)
     }
 
     /// The notifications as they are sent, and the request to watch the files of these paths,

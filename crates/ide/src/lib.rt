@@ -4,8 +4,8 @@
 //! program that has its own loop: `handle` takes the content of a frame. A message that the core
 //! knows is one step of the `server::Server` inside, and what that answers is sent; a request that
 //! it doesn't know is answered from the document that it holds: colours, whole, by lines or as a
-//! change, what may follow, the outline, what stands at a place, and brackets. So a text is read,
-//! scanned and parsed once.
+//! change, what may follow, the outline, what stands at a place, brackets, and what mends faults.
+//! So a text is read, scanned and parsed once; of a faulty one a mended copy is parsed.
 //!
 //! Words: the *palette* has the colour of each rule, the number of a type in the legend of
 //! semantic tokens; the *core* is the server inside.
@@ -34,7 +34,7 @@ mod asked;
 mod cancels;
 mod client;
 mod content;
-mod faults;
+mod faulty;
 mod ide;
 pub mod laws;
 mod looked;

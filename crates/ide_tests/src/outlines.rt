@@ -1,11 +1,14 @@
 //! Outlines.
 
+ghost use Rattle.docs.specs.Docs.{IsCurrent};
+
 use crate::grammars::{
     JSON, JSON_SAMPLE, JSON_SETTINGS, SCRIPT, SCRIPT_SAMPLE, SCRIPT_SETTINGS, TOML, TOML_SAMPLE,
     TOML_SETTINGS, document, language,
 };
 use definitions::Range;
 use docs::{Doc, Language};
+use faults::mended;
 use outline::{OutlineSymbol, outline};
 use parser::Verdict;
 use settings::Settings;
@@ -168,7 +171,7 @@ fn check(
     rows: &[Row],
 ) {
     let doc = document(rt, alloc, language, text);
-    let found = outline(alloc, language, settings, &doc).expect(rt, "memory");
+    let found = outline(alloc, language, settings, &doc, None).expect(rt, "memory");
     assert!(rt;
         found.len() == rows.len(),
         "{} symbols of {text:?}",
@@ -221,6 +224,33 @@ fn check_before(rt: &impl Abort, doc: &Doc, found: &[OutlineSymbol], rows: &[Row
     assert!(rt; left == found.len(), "too many with a fault in line {line}");
 }
 
+/// The outline of a mended text has the rows of the whole text.
+fn check_mended(
+    rt: &impl Abort,
+    alloc: Global,
+    language: &Language,
+    settings: &Settings,
+    doc: &Doc,
+    rows: &[Row],
+)
+    requires { IsCurrent language.now doc.now }
+{
+    let Some(mending) = mended(alloc, language, &[], doc).expect(rt, "memory") else {
+        return;
+    };
+    let found = outline(alloc, language, settings, doc, Some(&mending)).expect(rt, "memory");
+    for (symbol, row) in found.iter().zip(rows) {
+        assert!(rt;
+            symbol.name.as_str() == row.2,
+            "{} for {}",
+            symbol.name,
+            row.2
+        );
+        assert!(rt; symbol.depth == row.0 && symbol.kind == row.1, "{}", row.2);
+    }
+    assert!(rt; found.len() == rows.len(), "{} symbols", found.len());
+}
+
 /// Puts a character that begins no token at the start of each line.
 fn check_lines(
     rt: &impl Abort,
@@ -236,8 +266,9 @@ fn check_lines(
         let rest = sample.strip_prefix(before.as_str()).unwrap_or("");
         let text = format!(in alloc; "{before}\u{0}{rest}").expect(rt, "memory");
         let doc = document(rt, alloc, language, &text);
-        let found = outline(alloc, language, settings, &doc).expect(rt, "memory");
+        let found = outline(alloc, language, settings, &doc, None).expect(rt, "memory");
         check_before(rt, &doc, &found, rows, number);
+        check_mended(rt, alloc, language, settings, &doc, rows);
         before.push_str(line).expect(rt, "memory");
         before.push('\n').expect(rt, "memory");
         number = number.saturating_add(1);

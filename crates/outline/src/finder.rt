@@ -79,7 +79,7 @@ impl<'a> Finder<'a> {
         let Some(name) = self.span(places) else {
             return Ok(None);
         };
-        if !branch.span.has(name) {
+        if !branch.span.has(name) || name.is_empty() {
             return Ok(None);
         }
         let text = self.characters.get(name.start.offset..name.end.offset);

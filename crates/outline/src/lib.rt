@@ -1,9 +1,11 @@
 //! The symbols of a document, as an editor's outline shows them (LSP 3.17, "Document Symbols
 //! Request").
 //!
-//! `outline` finds them by the rules of the language's settings, in the tree of the text. Where
-//! the text has a fault, it finds what stands before that: in the settled trees, and among the
-//! nodes that are still open.
+//! `outline` finds them by the rules of the language's settings, in the tree of the text, or,
+//! where that has a fault, in the tree of its mended copy (`mending`). Where there is none, it
+//! finds what stands before the fault: in the settled trees, and among the nodes that are still
+//! open. `mended_folds` and `mended_selections` are what can be folded and selected in such a
+//! copy.
 //!
 //! Words: a *symbol* is a node that a rule of the settings gives a name and a kind. Its *depth* is
 //! the number of symbols that it lies in; each comes before those that lie in it, so the symbol
@@ -17,7 +19,7 @@
 //!
 //! ```
 //! let doc = Doc::open(alloc, language, Unit::Utf16, 1, "12+(3").ok()?;
-//! for symbol in &outline(alloc, language, settings, &doc).ok()? {
+//! for symbol in &outline(alloc, language, settings, &doc, None).ok()? {
 //!     println!(rt; "{} at {}", symbol.name, symbol.selection.start.character).ok()?;
 //! }
 //! // 12 at 0
@@ -26,14 +28,18 @@
 #![tactic(auto)]
 
 mod finder;
+mod folds;
 mod found;
 mod marks;
 mod names;
 mod nodes;
 mod open;
 mod outlines;
+mod selections;
 mod symbols;
 mod walk;
 
+pub use folds::mended_folds;
 pub use outlines::outline;
+pub use selections::mended_selections;
 pub use symbols::OutlineSymbol;

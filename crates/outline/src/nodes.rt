@@ -1,12 +1,13 @@
-//! The trees of a document, with the places of their tokens among the significant ones.
+//! The trees of a document, with the places of their tokens among the significant ones, or among
+//! the kinds of its mended copy.
 
 use definitions::{Kind, Symbol};
-use docs::{Doc, Language};
+use docs::Language;
 use grammar::Grammar;
 use std::alloc::{AllocError, Global};
 use trees::{Child, Children, NodeId, Store};
 
-/// The nodes of a document, by the grammar of its language. What the store doesn't have is a tree
+/// The nodes of a store, by the grammar of their language. What the store doesn't have is a tree
 /// of no tokens.
 #[derive(Clone, Copy)]
 pub(crate) struct Nodes<'a> {
@@ -36,11 +37,11 @@ impl Places {
 }
 
 impl<'a> Nodes<'a> {
-    /// The nodes of a document.
-    pub(crate) fn of(language: &'a Language, doc: &'a Doc) -> Nodes<'a> {
+    /// The nodes of a store.
+    pub(crate) fn of(language: &'a Language, store: &'a Store) -> Nodes<'a> {
         Nodes {
             grammar: language.grammar(),
-            store: doc.nodes(),
+            store,
         }
     }
 
@@ -64,6 +65,16 @@ impl<'a> Nodes<'a> {
         } else {
             None
         }
+    }
+
+    /// Whether nodes of this nonterminal fold.
+    pub(crate) fn is_fold(self, nonterminal: usize) -> bool {
+        self.grammar.is_fold(nonterminal)
+    }
+
+    /// How many nodes there are.
+    pub(crate) fn count(self) -> usize {
+        self.store.len()
     }
 
     /// The symbols of a production's right side.

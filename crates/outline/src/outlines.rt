@@ -5,19 +5,22 @@ ghost use Rattle.outline.specs.Nesting.{AreNested};
 ghost use Rattle.outline.specs.Symbols.{IsSymbolOf};
 
 use crate::finder::Finder;
-use crate::marks::{fault_of, spans};
+use crate::marks::{fault_of, mended_spans, spans};
 use crate::nodes::Nodes;
 use crate::open::{OpenNode, open_nodes};
 use crate::symbols::OutlineSymbol;
 use docs::{Doc, Language};
 use grammar::Grammar;
-use parser::Verdict;
+use mending::Mending;
+use parser::{Parse, Verdict};
 use settings::Settings;
 use std::alloc::{AllocError, Global};
 
 /// The symbols of a document, each before those that lie in it. Where the text has a fault, they
-/// are those that stand before it: of a node that isn't closed there yet, if its name is; it ends
-/// at the fault, or with its last part. The settings are those of the language.
+/// are those of its mended copy, in which what is put in has no width and is no name; without one,
+/// or where that has a fault too, those that stand before it: of a node that isn't closed there
+/// yet, if its name is; it ends at the fault, or with its last part. The settings are those of the
+/// language, and the copy is the document's.
 ///
 /// Refuses for memory alone.
 pub fn outline(
@@ -25,16 +28,24 @@ pub fn outline(
     language: &Language,
     settings: &Settings,
     doc: &Doc,
+    mending: Option<&Mending>,
 ) -> Result<Vec<OutlineSymbol>, AllocError>
     ensures symbols { IfOk result (λ symbols.
         All (IsSymbolOf settings.now doc.now.unit doc.now.text) symbols.items) }
     ensures nested { IfOk result (λ symbols. AreNested (map (λ s. s.depth) symbols.items)) }
 {
-    let nodes = Nodes::of(language, doc);
+    let (store, parse, spans) = match mending {
+        Some(mending) => (
+            mending.nodes(),
+            mending.parse(),
+            mended_spans(alloc, doc, mending)?,
+        ),
+        None => (doc.nodes(), doc.parse(), spans(alloc, doc)?),
+    };
+    let nodes = Nodes::of(language, store);
     let characters = doc.characters().characters(alloc)?;
-    let spans = spans(alloc, doc)?;
     let named = named(alloc, language.grammar(), settings)?;
-    let open = open_before_fault(alloc, language, nodes, doc)?;
+    let open = open_before_fault(alloc, language, nodes, parse)?;
     let finder = Finder {
         alloc,
         doc,
@@ -43,9 +54,9 @@ pub fn outline(
         characters: &characters,
         spans: &spans,
         named: &named,
-        fault: fault_of(doc, &spans),
+        fault: fault_of(doc, parse, &spans),
     };
-    let found = finder.all(doc.parse().stack(), open)?;
+    let found = finder.all(parse.stack(), open)?;
     Ok(found.symbols)
 }
 
@@ -59,17 +70,17 @@ fn named(alloc: Global, grammar: &Grammar, settings: &Settings) -> Result<Vec<bo
     Ok(named)
 }
 
-/// The nodes that are open at the fault of a document, from inner to outer.
+/// The nodes that are open at the fault of a parse, from inner to outer.
 fn open_before_fault(
     alloc: Global,
     language: &Language,
     nodes: Nodes<'_>,
-    doc: &Doc,
+    parse: &Parse,
 ) -> Result<Vec<OpenNode>, AllocError> {
-    match doc.parse().verdict() {
+    match parse.verdict() {
         Verdict::Tree(_) => Ok(Vec::new(alloc)),
         Verdict::FaultAt(_) | Verdict::FaultAtEnd => {
-            open_nodes(alloc, language, nodes, doc.parse().stack())
+            open_nodes(alloc, language, nodes, parse.stack())
         }
     }
 }

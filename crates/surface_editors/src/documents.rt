@@ -9,6 +9,7 @@ ghost use Rattle.outline.specs.Symbols.{IsSymbolOf};
 use definitions::{Position, Range};
 use docs::{Doc, Language};
 use hover::{BracketPair, HoverText, Markup};
+use mending::Mending;
 use outline::OutlineSymbol;
 use settings::Settings;
 use std::alloc::{AllocError, Global};
@@ -31,12 +32,13 @@ pub fn outline(
     language: &Language,
     settings: &Settings,
     doc: &Doc,
+    mending: Option<&Mending>,
 ) -> Result<Vec<OutlineSymbol>, AllocError>
     ensures symbols { IfOk result (λ symbols.
         All (IsSymbolOf settings.now doc.now.unit doc.now.text) symbols.items) }
     ensures nested { IfOk result (λ symbols. AreNested (map (λ s. s.depth) symbols.items)) }
 {
-    outline::outline(alloc, language, settings, doc)
+    outline::outline(alloc, language, settings, doc, mending)
 }
 
 /// `Markup`.

@@ -1,9 +1,0 @@
-use Rattle.std.proofs.lemmas.Result.{on_ok_weaker}
-use Rattle.editor_replies.proofs.faults.send_fault_list.Goals as goal
-
-pub returns : goal.returns
-returns g c =
-    let w = g.S.Serializer.written in
-    on_ok_weaker c.end_seq.result
-    (λ e. (w c.begin_seq.new.self, c.in_ok-begin_seq.ensures, (w c.send_fault.new.out, c.in_ok-send_fault.ensures, e)))
-    c.end_seq.ensures
