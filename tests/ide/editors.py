@@ -1,5 +1,5 @@
-"""Editors with `lrls-ide` on the screen: faults, colours, the outline and the words that may
-follow. The words of their settings are read from editors/README.md, so that what it says is what is
+"""Editors with `lrls-ide` on the screen: faults, what mends them, colours, the outline and the
+words that may follow. The words of their settings are read from editors/README.md, so that what it says is what is
 tried; there is no other code for them."""
 
 import os
@@ -10,6 +10,7 @@ from tests import TOP
 from tests.common import screens
 from tests.common.needs import Need
 from tests.common.surroundings import placed, surroundings
+from tests.editors.trials import ALE
 from tests.ide import kate as kate_trial
 
 DOCS = os.path.join(TOP, "docs")
@@ -24,6 +25,21 @@ fn main(width) {
     print(size, name);
 }
 """
+# The first line that a fault touches is the third one, behind a semicolon that is missing; then a
+# parenthesis is missing, and then a comma.
+FAULTY = """fn area(width, height) {
+    let sum = width * height
+    return sum;
+}
+
+fn main(width) {
+    let size = area(width, 2;
+    let name = "a" ;
+    print(size name);
+}
+"""
+MENDED_LINE = "let sum = width * height;"
+FIRST_FAULT = 'unexpected "return"; expected ";"'
 # Keys, what is on the screen then and what isn't, and whether it is drawn as a picture.
 Look = Tuple[List[str], List[str], List[str], bool]
 EMACS_BEFORE = """(setq native-comp-deferred-compilation nil
@@ -67,15 +83,18 @@ def coloured(screen: screens.Screen, words: Sequence[str]) -> List[str]:
 
 
 class Trial:
-    """An editor on a screen with the text."""
+    """An editor on a screen with a text."""
 
-    def __init__(self, name: str, folder: str, words: Sequence[str], draws: bool) -> None:
+    def __init__(
+        self, name: str, folder: str, words: Sequence[str], draws: bool, text: str = TEXT
+    ) -> None:
         self.name, self.folder, self.words, self.draws = name, folder, words, draws
+        self.text = text
 
     def run(self, looks: Sequence[Look], colours: Sequence[str]) -> List[str]:
-        placed(self.folder, "text.script", TEXT)
+        placed(self.folder, "text.script", self.text)
         with screens.Screen(self.folder, self.words, environment_of(self.folder), 90, 24) as screen:
-            wrong = screen.shows(["let sum = width * height;"]) or (
+            wrong = screen.shows(["let sum = width * height"]) or (
                 coloured(screen, colours) if colours else []
             )
             for number, (keys, parts, without, is_pictured) in enumerate(looks, 1):
@@ -171,10 +190,61 @@ def eglot(folder: str, draws: bool) -> List[str]:
     return emacs("eglot", "Emacs with eglot", folder, draws, ["*Rescan*", "Function"], [])
 
 
+def emacs_faults(
+    name: str, heading: str, folder: str, draws: bool, takes: List[str], symbols: List[str]
+) -> List[str]:
+    """Three faults, their messages, the outline behind them, and the first one mended by a fix."""
+    init = placed(folder, "init.el", EMACS_BEFORE + words_of(heading))
+    words = ["emacs", "-nw", "-q", "-l", init, "text.script"]
+    listed = ["M-x", "text:flymake-show-buffer-diagnostics", "Enter"]
+    looks: List[Look] = [
+        ([], ["[3 0]"], [], False),
+        (listed, [FIRST_FAULT, 'unexpected ";"', 'unexpected "name"'], [], True),
+        (["C-x", "1", "M-x", "text:imenu", "Enter", "Tab", "Tab"], symbols, [], False),
+        (["C-g", "C-g", "C-g", "C-x", "1"], ["[3 0]"], ["Index item", "*Rescan*"], False),
+        (["M-<", "C-n", "C-n", "M-m"], ["L3"], [], False),
+        (takes, [MENDED_LINE, "[2 0]"], [], False),
+    ]
+    return Trial(f"{name}-faults", folder, words, draws, FAULTY).run(looks, [])
+
+
+def eglot_faults(folder: str, draws: bool) -> List[str]:
+    takes = ["M-x", "text:eglot-code-actions", "Enter", "Enter"]
+    return emacs_faults(
+        "eglot", "Emacs with eglot", folder, draws, takes, ["*Rescan*", "Function", "Variable"]
+    )
+
+
+def lsp_mode_faults(folder: str, draws: bool) -> List[str]:
+    # The only fix is taken without a question.
+    takes = ["M-x", "text:lsp-execute-code-action", "Enter"]
+    symbols = ["*Rescan*", "\narea\n", "\nmain\n"]
+    return emacs_faults("lsp-mode", "Emacs with lsp-mode", folder, draws, takes, symbols)
+
+
+def vim_ale_faults(folder: str, draws: bool) -> List[str]:
+    before = "set nocompatible\nlet g:ale_virtualtext_cursor = 1\nlet g:ale_sign_error = '>>'\n"
+    placed(folder, "vimrc", f"{before}packadd! ale\n{words_of('Vim with ALE')}")
+    words = ["vim", "-n", "-i", "NONE", "-u", "vimrc", "text.script"]
+    signs = [">>    return sum;", ">>    let size", ">>    print(size"]
+    looks: List[Look] = [
+        (["text:3G"], [*signs, FIRST_FAULT], [], True),
+        (["text::ALECodeAction", "Enter"], ['1) put in ";"'], [], False),
+        (["text:1", "Enter"], [MENDED_LINE], ["Code Fixes"], False),
+        (["text:7G"], ['unexpected ";"'], [signs[0]], False),
+    ]
+    return Trial("vim-ale-faults", folder, words, draws, FAULTY).run(looks, [])
+
+
 def kate(folder: str, draws: bool) -> List[str]:
     return kate_trial.run(
         folder, words_of("Kate"), os.path.join(DOCS, "ide-kate.png") if draws else None
     )
+
+
+def kate_faults(folder: str, draws: bool) -> List[str]:
+    picture = os.path.join(DOCS, "ide-kate-faults.png") if draws else None
+    return kate_trial.faults(folder, words_of("Kate"), picture)
 
 
 TMUX = Need(["tmux", "-V"], "tmux")
@@ -190,5 +260,9 @@ TRIALS: Dict[str, Tuple[List[Need], Callable[[str, bool], List[str]]]] = {
     "helix": ([HELIX, TMUX], helix),
     "lsp-mode": ([EMACS, LSP_MODE, TMUX], lsp_mode),
     "eglot": ([EMACS, EGLOT, TMUX], eglot),
+    "eglot-faults": ([EMACS, EGLOT, TMUX], eglot_faults),
+    "lsp-mode-faults": ([EMACS, LSP_MODE, TMUX], lsp_mode_faults),
+    "vim-ale-faults": ([ALE, TMUX], vim_ale_faults),
     "kate": (kate_trial.NEEDS, kate),
+    "kate-faults": (kate_trial.NEEDS, kate_faults),
 }

@@ -26,6 +26,11 @@ NEEDS = [
     Need(["dbus-run-session", "--version"], "dbus-daemon"),
 ]
 TEXT = '{\n    "name": "lrls",\n    "numbers": [1, 2.5e3],\n    "inner": { "flag": false }\n}\n'
+# A comma is missing, then another one, then a colon.
+FAULTY = '{\n    "name": "lrls"\n    "numbers": [1 2.5e3],\n    "inner": { "flag" false }\n}\n'
+# The first characters of the faults in that, and the names in its outline.
+FAULTS = ('"character":4,"line":2', '"character":18,"line":2', '"character":22,"line":3')
+NAMES = ('"name":"numbers"', '"name":"inner"', '"name":"flag"')
 KATERC = """[General]
 Show welcome view for new window=false
 Last Session=
@@ -62,7 +67,7 @@ OFFERED = '"label":"true"'
 class Kate:
     """Kate with a file, on a screen, while the `with` block lasts."""
 
-    def __init__(self, folder: str, settings: str) -> None:
+    def __init__(self, folder: str, settings: str, text: str = TEXT) -> None:
         self.folder = folder
         table = json.loads(settings)
         command = table["servers"]["json"]["command"]
@@ -72,7 +77,7 @@ class Kate:
         os.makedirs(os.path.join(folder, ".config", "kate", "lspclient"))
         placed(folder, ".config/kate/lspclient/settings.json", json.dumps(table))
         placed(folder, ".config/katerc", KATERC.format(command=wrapper))
-        self.file = placed(folder, "text.json", TEXT)
+        self.file = placed(folder, "text.json", text)
         self.display = f":{90 + os.getpid() % 100}"
         self.environment = {
             **surroundings(folder),
@@ -194,6 +199,23 @@ def made_small(picture: str) -> None:
     """Gives a picture few colours."""
     words = ["convert", picture, "+dither", "-colors", "48"]
     subprocess.run([*words, "-define", "png:compression-level=9", picture], check=True)
+
+
+def faults(folder: str, settings: str, picture: Optional[str]) -> List[str]:
+    """What is wrong where Kate shows a text with three faults."""
+    with Kate(folder, settings, FAULTY) as kate:
+        for part in (*FAULTS, *NAMES):
+            if not kate.waits(lambda: part in kate.logged("answers")):
+                return [f"kate, faults: never got {part}"]
+        if picture:
+            # The button "LSP" below the text, which shows what is said of the faults.
+            kate.press("mousemove", "254", "454", "click", "1")
+            time.sleep(2)
+            kate.picture(picture, "-crop", "733x466+0+0")
+    if picture and shutil.which("convert"):
+        made_small(picture)
+    print("kate: three faults, and the outline behind the first")
+    return []
 
 
 def run(folder: str, settings: str, picture: Optional[str]) -> List[str]:
