@@ -1,6 +1,6 @@
 -- What a session comes to in which a text of sums is opened empty and then typed in.
 use Rattle.std.specs.Prelude.{◌≡◌, ℕ, pos, List, [], ◌∷◌, ◌++◌, codes, Bool, true, false, ◌||◌, nat_lt, Option, Some, None, Result, Ok, Err, refl, take, ◌⊎◌, option_map, ◌+◌, encode_utf8_all, ◌↔◌}
-use Rattle.std.proofs.Common.{ap, sym, subst, ◌∙◌, inl, inr, arith}
+use Rattle.std.proofs.Common.{ap, sym, subst, ◌∙◌, append-nil, inl, inr, arith}
 use Rattle.std.specs.Char.{encode_utf8}
 use Rattle.std.specs.FinMap.{empty, get, insert, len, contains_key, get-insert, len-empty}
 use Rattle.std.proofs.lemmas.Cmp.{nat_list_cmp_total}
@@ -44,9 +44,9 @@ use Rattle.sessions.specs.Runs.{Run, bytes_of}
 use Rattle.sessions.specs.Steps.{State, Step, first_state, new_document, Opens, Holds, Changes}
 use Rattle.sessions.specs.declared.phase.Phase.TheVariants.{Ready, Down}
 use Rattle.session_rows.specs.Contents.{uri, of, initializes, opens, types, asks, shuts_down, exits, both_changes, session_bytes}
-use Rattle.session_rows.specs.Known.{ComesTo, CameEither}
+use Rattle.session_rows.specs.Known.{ComesTo, CameEither, IsPrefixOf}
 use Rattle.session_rows.specs.Written.{typed, typed_and_lost}
-use Rattle.session_rows.proofs.FewBytes.{Known, next, last}
+use Rattle.session_rows.proofs.FewBytes.{Known, AreFirst, first_step, last, last_step, longer, next, none_yet, prefix_of}
 use Rattle.session_rows.proofs.Received.{initializes_is, opens_is, types_is, asks_is, shuts_down_is, exits_is}
 use Rattle.session_rows.proofs.Sums.{sums, skips, number, not_empty, at_first, no_tokens, one_kind}
 
@@ -143,6 +143,20 @@ module _ (file : FileGrammar) where
       let exited = last (down documents) exits [] _ exits_is shut.0 stop after 0 (λ sent halt m s. (s.0, s.1)) shut.2 in
       (asked.1 ∙ ap (λ l. reply ∷ l) (shut.1 ∙ ap (λ l. null_reply (of 3) ∷ l) exited.0), exited.1)
 
+  -- and what is answered to a part of that
+  first_ends : (Is : List Answer → Type 0) (documents : Held) (reply : Answer) → Is (reply ∷ null_reply (of 3) ∷ [])
+      → ((other : Answer) → IsAnswer file (of 2) (get documents uri) its_text other → other ≡ reply)
+      → (part more : List (List ℕ)) (answers : List Answer) (stop : Option ℕ) (after : State) → part ++ more ≡ asks ∷ shuts_down ∷ exits ∷ []
+      → Run (ready documents) part answers stop after → AreFirst Is answers
+  first_ends Is documents reply is only part more answers stop after joined run =
+      first_step Is (reply ∷ null_reply (of 3) ∷ []) is (ready documents) (ready documents) asks (shuts_down ∷ exits ∷ []) part more _ asks_is (reply ∷ []) answers stop after
+      (λ sent halt m s. (s.2.0 ∙ ap (λ a. a ∷ []) (only s.0 s.1), s.2.1, s.2.2))
+      (λ later rest j r. first_step (λ l. Is (reply ∷ l)) (null_reply (of 3) ∷ []) is (ready documents) (down documents) shuts_down (exits ∷ []) later more _ shuts_down_is
+      (null_reply (of 3) ∷ []) rest stop after (λ sent halt m s. s)
+      (λ others none k q. last_step (λ l. Is (reply ∷ null_reply (of 3) ∷ l)) is (down documents) exits [] others more _ exits_is none stop after 0
+      (λ sent halt m s. (s.0, s.1)) k q) j r)
+      joined run
+
   abbrev held : DocumentState → Held
   held state = insert empty uri state
 
@@ -153,23 +167,44 @@ module _ (file : FileGrammar) where
   unfolding chars encode_utf8
   fits_is = refl
 
-  -- the first two contents, and what is sent on them
-  opened : (answers : List Answer) (stop : Option ℕ) (after : State)
-      → ((answer : Answer) → IsPublished file uri no_text answer → answer ≡ first_published)
-      → Run (first_state file) (initializes ∷ opens ∷ types ∷ asks ∷ shuts_down ∷ exits ∷ []) answers stop after
-      → (rest : List Answer) × (answers ≡ capabilities_reply (of 1) Utf16 ∷ first_published ∷ rest)
-      × Run (ready (held (is_open no_text))) (types ∷ asks ∷ shuts_down ∷ exits ∷ []) rest stop after
-  opened answers stop after published run =
-      let first = next (first_state file) (ready empty) initializes (opens ∷ types ∷ asks ∷ shuts_down ∷ exits ∷ []) _ initializes_is answers
-      (capabilities_reply (of 1) Utf16 ∷ []) stop after (λ sent halt m s. s) run in
-      let second = next (ready empty) (ready (held (is_open no_text))) opens (types ∷ asks ∷ shuts_down ∷ exits ∷ []) _ opens_is first.0 (first_published ∷ []) stop after
-      (λ sent halt m s. holds sent halt m (subst (λ d. Opens true (ready empty) uri d sent halt m) fits_is
-      (subst (λ b. Opens b (ready empty) uri (new_document Utf16 (pos 1) (chars [])) sent halt m) (room empty (len-empty _ _)) s))) first.2 in
-      (second.0, first.1 ∙ ap (λ l. capabilities_reply (of 1) Utf16 ∷ l) second.1, second.2)
-    where
-      holds : (sent : List Answer) (halt : Option ℕ) (m : State) → Holds (ready empty) uri (is_open no_text) sent halt m
-          → (sent ≡ first_published ∷ []) × (halt ≡ None) × (m ≡ ready (held (is_open no_text)))
-      holds sent halt m h = (h.2 ∙ ap (λ a. a ∷ []) (published h.0 h.1), h.3.0, h.3.1)
+  abbrev rest_of_all : List (List ℕ)
+  rest_of_all = types ∷ asks ∷ shuts_down ∷ exits ∷ []
+
+  module _ (published : (answer : Answer) → IsPublished file uri no_text answer → answer ≡ first_published) where
+    holds : (sent : List Answer) (halt : Option ℕ) (m : State) → Holds (ready empty) uri (is_open no_text) sent halt m
+        → (sent ≡ first_published ∷ []) × (halt ≡ None) × (m ≡ ready (held (is_open no_text)))
+    holds sent halt m h = (h.2 ∙ ap (λ a. a ∷ []) (published h.0 h.1), h.3.0, h.3.1)
+
+    -- the step on the second content
+    opens_so : (sent : List Answer) (halt : Option ℕ) (m : State)
+        → Opens (has_room uri empty) (ready empty) uri (new_document Utf16 (pos 1) (chars [])) sent halt m
+        → (sent ≡ first_published ∷ []) × (halt ≡ None) × (m ≡ ready (held (is_open no_text)))
+    opens_so sent halt m s =
+        holds sent halt m (subst (λ d. Opens true (ready empty) uri d sent halt m) fits_is
+        (subst (λ b. Opens b (ready empty) uri (new_document Utf16 (pos 1) (chars [])) sent halt m) (room empty (len-empty _ _)) s))
+
+    -- the first two contents, and what is sent on them
+    opened : (answers : List Answer) (stop : Option ℕ) (after : State) → Run (first_state file) (initializes ∷ opens ∷ rest_of_all) answers stop after
+        → (rest : List Answer) × (answers ≡ capabilities_reply (of 1) Utf16 ∷ first_published ∷ rest)
+        × Run (ready (held (is_open no_text))) rest_of_all rest stop after
+    opened answers stop after run =
+        let first = next (first_state file) (ready empty) initializes (opens ∷ rest_of_all) _ initializes_is answers
+        (capabilities_reply (of 1) Utf16 ∷ []) stop after (λ sent halt m s. s) run in
+        let second = next (ready empty) (ready (held (is_open no_text))) opens rest_of_all _ opens_is first.0 (first_published ∷ []) stop after opens_so first.2 in
+        (second.0, first.1 ∙ ap (λ l. capabilities_reply (of 1) Utf16 ∷ l) second.1, second.2)
+
+    -- and what is sent on a part of all contents, where that of the others is known
+    first_opened : (Is : List Answer → Type 0) (all : List Answer) → Is (capabilities_reply (of 1) Utf16 ∷ first_published ∷ all)
+        → (part more : List (List ℕ)) (answers : List Answer) (stop : Option ℕ) (after : State)
+        → ((later : List (List ℕ)) (rest : List Answer) → later ++ more ≡ rest_of_all → Run (ready (held (is_open no_text))) later rest stop after
+        → AreFirst (λ l. Is (capabilities_reply (of 1) Utf16 ∷ first_published ∷ l)) rest)
+        → part ++ more ≡ initializes ∷ opens ∷ rest_of_all → Run (first_state file) part answers stop after → AreFirst Is answers
+    first_opened Is all is part more answers stop after go joined run =
+        first_step Is (capabilities_reply (of 1) Utf16 ∷ first_published ∷ all) is (first_state file) (ready empty) initializes (opens ∷ rest_of_all) part more _ initializes_is
+        (capabilities_reply (of 1) Utf16 ∷ []) answers stop after (λ sent halt m s. s)
+        (λ later rest j r. first_step (λ l. Is (capabilities_reply (of 1) Utf16 ∷ l)) (first_published ∷ all) is (ready empty) (ready (held (is_open no_text))) opens rest_of_all
+        later more _ opens_is (first_published ∷ []) rest stop after opens_so go j r)
+        joined run
 
 abbrev typed_answers : List Answer
 typed_answers = capabilities_reply (of 1) Utf16 ∷ first_published ∷ published_diagnostics uri (Some (pos 2)) None ∷ text_reply (of 2) (pos 2) (codes "2") ∷ null_reply (of 3) ∷ []
@@ -232,6 +267,25 @@ module _ (file : FileGrammar)
       (subst (λ x. Run x (asks ∷ shuts_down ∷ exits ∷ []) later stop after) h.1.1 run) in
       (inr (is ∙ ap (λ l. l ++ later) h.0 ∙ ap (λ l. published_diagnostics uri None None ∷ log_message (log.Lost loss.Memory) ∷ l) rest.0), rest.1)
 
+  -- and what is sent on a part of that
+  first_becomes : (Is : List Answer → Type 0) → Is after_open → Is after_loss
+      → (state : DocumentState) (sent : List Answer) (m : State) (part more : List (List ℕ)) (later answers : List Answer) (stop : Option ℕ) (after : State)
+      → Becomes file (pos 2) no_text both_changes state → Holds (ready file before) uri state sent None m
+      → answers ≡ sent ++ later → part ++ more ≡ asks ∷ shuts_down ∷ exits ∷ [] → Run m part later stop after → AreFirst Is answers
+  first_becomes Is opens loses (is_open e) sent m part more later answers stop after b h is joined run =
+      let same : Some e.text ≡ Some (codes "2") = sym b.0 ∙ edited_is in
+      let text : e.text ≡ codes "2" = cc same in
+      let told : answers ≡ published_diagnostics uri (Some (pos 2)) None ∷ later = is ∙ ap (λ l. l ++ later) (h.2 ∙ ap (λ a. a ∷ []) (published e h.0 text b.2 h.1)) in
+      longer Is (published_diagnostics uri (Some (pos 2)) None ∷ []) answers later told
+      (first_ends file (λ l. Is (published_diagnostics uri (Some (pos 2)) None ∷ l)) (insert before uri (is_open e)) (text_reply (of 2) (pos 2) (codes "2")) opens
+      (its_reply e text b.2) part more later stop after joined (subst (λ x. Run x part later stop after) h.3.1 run))
+  first_becomes Is opens loses (is_lost loss.TooLarge) sent m part more later answers stop after b h is joined run = let f : ⊥ = cc (sym edited_is ∙ b) in absurd f
+  first_becomes Is opens loses (is_lost loss.MalformedChange) sent m part more later answers stop after b h is joined run = absurd b
+  first_becomes Is opens loses (is_lost loss.Memory) sent m part more later answers stop after b h is joined run =
+      longer Is (published_diagnostics uri None None ∷ log_message (log.Lost loss.Memory) ∷ []) answers later (is ∙ ap (λ l. l ++ later) h.0)
+      (first_ends file (λ l. Is (published_diagnostics uri None None ∷ log_message (log.Lost loss.Memory) ∷ l)) (insert before uri (is_lost loss.Memory))
+      (error_reply (Some (of 2)) (refusal.DocumentLost loss.Memory)) loses its_loss part more later stop after joined (subst (λ x. Run x part later stop after) h.1.1 run))
+
   goes_on : (state : DocumentState) (sent : List Answer) (halt : Option ℕ) (m : State) → Holds (ready file before) uri state sent halt m → halt ≡ None
   goes_on (is_open e) sent halt m h = h.3.0
   goes_on (is_lost l) sent halt m h = h.1.0
@@ -247,6 +301,23 @@ module _ (file : FileGrammar)
       let c = change_of sent None m step in becomes c.0 sent m later answers stop after c.1 c.2 is run
   typed_in answers stop after (sent, Some status, m, step, end) =
       let c = change_of sent (Some status) m step in absurd (cc (goes_on c.0 sent (Some status) m c.2))
+
+  first_changed : (Is : List Answer → Type 0) → Is after_open → Is after_loss
+      → (part more : List (List ℕ)) (answers : List Answer) (stop : Option ℕ) (after : State) → part ++ more ≡ asks ∷ shuts_down ∷ exits ∷ []
+      → Run (ready file before) (types ∷ part) answers stop after → AreFirst Is answers
+  first_changed Is opens loses part more answers stop after joined (sent, None, m, step, (later, is, run)) =
+      let c = change_of sent None m step in first_becomes Is opens loses c.0 sent m part more later answers stop after c.1 c.2 is joined run
+  first_changed Is opens loses part more answers stop after joined (sent, Some status, m, step, end) =
+      let c = change_of sent (Some status) m step in absurd (cc (goes_on c.0 sent (Some status) m c.2))
+
+  first_typed : (Is : List Answer → Type 0) → Is after_open → Is after_loss
+      → (part more : List (List ℕ)) (answers : List Answer) (stop : Option ℕ) (after : State) → part ++ more ≡ rest_of_all file
+      → Run (ready file before) part answers stop after → AreFirst Is answers
+  first_typed Is opens loses [] more answers stop after joined run = none_yet Is after_open answers opens run.0
+  first_typed Is opens loses (c ∷ cs) more answers stop after joined run =
+      let same : c ≡ types = cc joined in
+      let rests : cs ++ more ≡ asks ∷ shuts_down ∷ exits ∷ [] = cc joined in
+      first_changed Is opens loses cs more answers stop after rests (subst (λ x. Run (ready file before) (x ∷ cs) answers stop after) same run)
 
 -- ---- the whole session
 
@@ -275,7 +346,7 @@ module _ (file : FileGrammar)
   whole : (answers : List Answer) (stop : Option ℕ) (after : State) → Run (first_state file) all_contents answers stop after
       → ((answers ≡ typed_answers) ⊎ (answers ≡ lost_answers)) × (stop ≡ Some 0)
   whole answers stop after run =
-      let begun = opened file answers stop after first run in
+      let begun = opened file first answers stop after run in
       let done = typed_in file second begun.0 stop after begun.2 in
       (by begun.0 begun.1 done.0, done.1)
     where
@@ -289,6 +360,22 @@ module _ (file : FileGrammar)
   written_so answers written is (inl e) = inl (is ∙ ap bytes_of e ∙ typed_bytes)
   written_so answers written is (inr e) = inr (is ∙ ap bytes_of e ∙ lost_bytes)
 
+  -- what is sent on a part of it
+  abbrev Either : List Answer → Type 0
+  Either l = (l ≡ typed_answers) ⊎ (l ≡ lost_answers)
+
+  first_whole : (part more : List (List ℕ)) (answers : List Answer) (stop : Option ℕ) (after : State) → part ++ more ≡ all_contents
+      → Run (first_state file) part answers stop after → AreFirst Either answers
+  first_whole part more answers stop after joined run =
+      first_opened file first Either after_open (inl refl) part more answers stop after
+      (λ later rest j r. first_typed file second (λ l. Either (capabilities_reply (of 1) Utf16 ∷ first_published ∷ l)) (inl refl) (inr refl) later more rest stop after j r)
+      joined run
+
+  prefix_so : (answers : List Answer) (written rest : List ℕ) → bytes_of answers ≡ written ++ rest → AreFirst Either answers
+      → IsPrefixOf typed written ⊎ IsPrefixOf typed_and_lost written
+  prefix_so answers written rest is (others, inl e) = inl (subst (λ b. IsPrefixOf b written) typed_bytes (prefix_of typed_answers answers others written rest e is))
+  prefix_so answers written rest is (others, inr e) = inr (subst (λ b. IsPrefixOf b written) lost_bytes (prefix_of lost_answers answers others written rest e is))
+
   came : (written : List ℕ) (outcome : Result ℕ RunFault) → ComesTo file all_contents (Open []) written outcome → CameEither (Ok 0) typed typed_and_lost outcome written
   came written (Ok status) (answers, stop, after, run, is, inl some) =
       let w = whole answers stop after run in
@@ -299,9 +386,12 @@ module _ (file : FileGrammar)
       absurd (cc (sym none ∙ (whole answers stop after run).1))
   came written (Err (Frame fault)) (answers, stop, after, run, is, (none, finish)) =
       absurd (cc (sym none ∙ (whole answers stop after run).1))
-  came written (Err Read) k = inr tt
-  came written (Err Write) k = inr tt
-  came written (Err Memory) k = inr tt
+  came written (Err Read) (part, more, joined, (answers, stop, after, run, is, none)) =
+      inr (tt, prefix_so answers written [] (sym is ∙ sym (append-nil written)) (first_whole part more answers stop after joined run))
+  came written (Err Write) (part, more, answers, stop, after, rest, joined, run, is) =
+      inr (tt, prefix_so answers written rest is (first_whole part more answers stop after joined run))
+  came written (Err Memory) (part, more, answers, stop, after, rest, joined, run, is) =
+      inr (tt, prefix_so answers written rest is (first_whole part more answers stop after joined run))
 
 -- ---- the grammar file
 

@@ -42,11 +42,16 @@ GaveOut (Err Read) = Unit {0}
 GaveOut (Err Write) = Unit {0}
 GaveOut (Err Memory) = Unit {0}
 
--- a session ended so and wrote these bytes, or it gave out
-abbrev pub Came : Result ℕ RunFault → List ℕ → Result ℕ RunFault → List ℕ → Type 0
-Came wanted bytes outcome written = ((outcome ≡ wanted) × (written ≡ bytes)) ⊎ GaveOut outcome
+-- a prefix of the bytes was written
+abbrev pub IsPrefixOf : List ℕ → List ℕ → Type 0
+IsPrefixOf bytes written = (rest : List ℕ) × (bytes ≡ written ++ rest)
 
--- a session ended so and wrote these bytes or those, or it gave out
+-- a session ended so and wrote these bytes; or it gave out, and wrote a prefix of them
+abbrev pub Came : Result ℕ RunFault → List ℕ → Result ℕ RunFault → List ℕ → Type 0
+Came wanted bytes outcome written = ((outcome ≡ wanted) × (written ≡ bytes)) ⊎ (GaveOut outcome × IsPrefixOf bytes written)
+
+-- a session ended so and wrote these bytes or those; or it gave out, and wrote a prefix of these or of those
 abbrev pub CameEither : Result ℕ RunFault → List ℕ → List ℕ → Result ℕ RunFault → List ℕ → Type 0
 CameEither wanted bytes others outcome written =
-    ((outcome ≡ wanted) × ((written ≡ bytes) ⊎ (written ≡ others))) ⊎ GaveOut outcome
+    ((outcome ≡ wanted) × ((written ≡ bytes) ⊎ (written ≡ others)))
+    ⊎ (GaveOut outcome × (IsPrefixOf bytes written ⊎ IsPrefixOf others written))
