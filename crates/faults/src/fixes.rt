@@ -1,8 +1,8 @@
 //! What mends faults of a document.
 
 use crate::edits::{TextEdit, has_text};
-use crate::later::{MOST_FAULTS, left_out, number_of, put_in};
-use crate::spans::{span_of_range, span_of_token};
+use crate::later::{MOST_FAULTS, left_out, number_of, put_in, span_of_repair};
+use crate::spans::span_of_range;
 use crate::steps::{Step, steps};
 use crate::words::words_at;
 use definitions::Range;
@@ -50,7 +50,7 @@ impl<'a> About<'a> {
         let wanted = span_of_range(self.doc, range);
         let mut fixes = Vec::new(self.alloc);
         for repair in self.mending.repairs().iter().take(MOST_FAULTS) {
-            if span_of_token(self.doc, number_of(repair)).touches(wanted) {
+            if span_of_repair(self.doc, repair).touches(wanted) {
                 self.add_fixes(&mut fixes, repair)?;
             }
         }
@@ -61,7 +61,7 @@ impl<'a> About<'a> {
     fn add_fixes(self, fixes: &mut Vec<Fix>, repair: &Repair) -> Result<(), AllocError> {
         self.add_fix(fixes, repair, repair.from, &repair.changes, true)?;
         for other in &repair.others {
-            self.add_fix(fixes, repair, number_of(repair), other, false)?;
+            self.add_fix(fixes, repair, number_of(self.doc, repair), other, false)?;
         }
         Ok(())
     }
@@ -88,13 +88,13 @@ impl<'a> About<'a> {
         let Some(edits) = self.edits(&steps)? else {
             return Ok(());
         };
-        let number = number_of(repair);
+        let number = number_of(self.doc, repair);
         let (language, settings, looks) = (self.language, self.settings, &repair.expected);
         let words = words_at(self.alloc, language, settings, self.doc, number, looks)?;
         fixes.push(Fix {
             title: self.title(&steps)?,
             is_preferred,
-            range: span_of_token(self.doc, number).range(self.doc),
+            range: span_of_repair(self.doc, repair).range(self.doc),
             message: words.message,
             edits,
         })?;

@@ -1,7 +1,12 @@
 //! The faults behind the first one.
 
-ghost use Rattle.std.specs.Prelude.{◌≤◌, IfOk, length};
-ghost use Rattle.faults.specs.Places.{AreInText, IsInText};
+ghost use Rattle.std.specs.Prelude.{◌≡◌, ◌≤◌, IfOk, count_by, length, map, min};
+ghost use Rattle.definitions.specs.Answers.{range_of};
+ghost use Rattle.docs.specs.Docs.{IsCurrent};
+ghost use Rattle.docs.specs.Languages.{LanguageData};
+ghost use Rattle.lexer.specs.Tokens.{is_significant, plain};
+ghost use Rattle.readings.specs.Contents.{placed_parts};
+ghost use Rattle.faults.specs.Places.{AreInText, IsInText, fault_number, ranges_behind, span_of_fault};
 
 use crate::spans::{Span, span_of_token};
 use crate::steps::{Step, steps};
@@ -37,9 +42,9 @@ pub struct FaultBehind {
     pub condition: Note,
 }
 
-/// The faults behind the first one of a document, in the order of the text, at most 19: of its
-/// mended copy, each where the ones before it are mended. `mending` is that of the document, and
-/// the settings are those of the language.
+/// The faults behind the first one of a document, in the order of the text, at most 19: one for
+/// each repair of `mending` but the first, at the significant token of its number. `mending` is
+/// that of the document, and the settings are those of the language.
 ///
 /// Refuses for memory alone.
 pub fn behind(
@@ -49,24 +54,67 @@ pub fn behind(
     doc: &Doc,
     mending: &Mending,
 ) -> Result<Vec<FaultBehind>, AllocError>
-    ensures places { IfOk result (λ faults. AreInText doc.now.unit doc.now.text faults.items) }
-    ensures few { IfOk result (λ faults. length faults.items ≤ 19) }
+    ensures ranges { (language : LanguageData) → IsCurrent language doc.now →
+        let tokens = placed_parts language.file (map plain doc.now.tokens.items) in
+        IfOk result (λ faults. map (λ fault. fault.range) faults.items
+        ≡ ranges_behind doc.now.unit doc.now.text tokens mending.now.repairs.items) }
+    ensures conditions { IfOk result (λ faults.
+        AreInText doc.now.unit doc.now.text faults.items) }
+{
+    match mending.repairs().split_first() {
+        Some((first, later)) => {
+            let told = later.len().min(MOST_FAULTS - 1);
+            faults_of(alloc, language, settings, doc, first, &later[..told])
+        }
+        None => Ok(Vec::new(alloc)),
+    }
+}
+
+/// The faults of these repairs, of which the first is made behind `first`.
+fn faults_of(
+    alloc: Global,
+    language: &Language,
+    settings: &Settings,
+    doc: &Doc,
+    first: &Repair,
+    later: &[Repair],
+) -> Result<Vec<FaultBehind>, AllocError>
+    ensures ranges { (language : LanguageData) → IsCurrent language doc.now →
+        let tokens = placed_parts language.file (map plain doc.now.tokens.items) in
+        let span = span_of_fault doc.now.text tokens in
+        IfOk result (λ faults. map (λ fault. fault.range) faults.items
+        ≡ map (λ r. range_of doc.now.unit doc.now.text (span r)) later.now) }
+    ensures conditions { IfOk result (λ faults.
+        AreInText doc.now.unit doc.now.text faults.items) }
 {
     let mut faults = Vec::new(alloc);
-    for number in 1..MOST_FAULTS {
-        let repairs = mending.repairs();
-        let (Some(before), Some(repair)) = (repairs.get(number - 1), repairs.get(number)) else {
-            return Ok(faults);
-        };
+    let mut before = first;
+    for repair in later {
         faults.push(fault_behind(alloc, language, settings, doc, before, repair)?)?;
+        before = repair;
     }
     Ok(faults)
 }
 
-/// The number of the significant token at which a repair's fault is.
-pub(crate) fn number_of(repair: &Repair) -> usize {
+/// The number of the significant token at which a repair's fault is, or that of the end.
+pub(crate) fn number_of(doc: &Doc, repair: &Repair) -> usize
+    ensures { let all = count_by is_significant doc.now.tokens.items in
+        result ≡ min (fault_number repair.now) all }
+{
     let passed = repair.fault.saturating_sub(repair.at);
-    repair.from.saturating_add(passed)
+    let number = repair.from.saturating_add(passed);
+    number.min(doc.tokens().significant())
+}
+
+/// The significant token at which a repair's fault is, or the end of the text.
+pub(crate) fn span_of_repair(doc: &Doc, repair: &Repair) -> Span
+    ensures ordered { result.start ≤ result.end }
+    ensures within { result.end ≤ length doc.now.text }
+    ensures is { (language : LanguageData) → IsCurrent language doc.now →
+        let tokens = placed_parts language.file (map plain doc.now.tokens.items) in
+        (result.start, result.end) ≡ span_of_fault doc.now.text tokens repair.now }
+{
+    span_of_token(doc, number_of(doc, repair))
 }
 
 /// The fault of a repair, which is one where the repair before it is made.
@@ -78,20 +126,23 @@ fn fault_behind(
     before: &Repair,
     repair: &Repair,
 ) -> Result<FaultBehind, AllocError>
-    ensures { IfOk result (λ fault. IsInText doc.now.unit doc.now.text fault.range
-        × IsInText doc.now.unit doc.now.text fault.condition.range) }
+    ensures range { (language : LanguageData) → IsCurrent language doc.now →
+        let tokens = placed_parts language.file (map plain doc.now.tokens.items) in
+        let span = span_of_fault doc.now.text tokens repair.now in
+        IfOk result (λ fault. fault.range ≡ range_of doc.now.unit doc.now.text span) }
+    ensures condition { IfOk result (λ fault.
+        IsInText doc.now.unit doc.now.text fault.condition.range) }
 {
-    let number = number_of(repair);
     let Words { message, related } = words_at(
         alloc,
         language,
         settings,
         doc,
-        number,
+        number_of(doc, repair),
         &repair.expected,
     )?;
     Ok(FaultBehind {
-        range: span_of_token(doc, number).range(doc),
+        range: span_of_repair(doc, repair).range(doc),
         message,
         related,
         condition: condition(alloc, language, settings, doc, before)?,
@@ -131,7 +182,7 @@ fn place_of(doc: &Doc, repair: &Repair, steps: &[Step]) -> Span
 {
     match steps.first() {
         Some(step) => gone(doc, step),
-        None => span_of_token(doc, number_of(repair)),
+        None => span_of_repair(doc, repair),
     }
 }
 

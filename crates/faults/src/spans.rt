@@ -1,11 +1,16 @@
 //! Where tokens of a document stand.
 
-ghost use Rattle.std.specs.Prelude.{◌≡◌, ◌≤◌, length, max};
-ghost use Rattle.definitions.specs.Answers.{range_of};
+ghost use Rattle.std.specs.Prelude.{◌≡◌, ◌≤◌, length, map, max, slice_get};
+ghost use Rattle.definitions.specs.Answers.{fault_span, range_of};
+ghost use Rattle.docs.specs.Docs.{IsCurrent};
+ghost use Rattle.docs.specs.Languages.{LanguageData};
+ghost use Rattle.lexer.specs.Tokens.{plain};
+ghost use Rattle.readings.specs.Contents.{placed_parts};
 
 use definitions::Range;
 use docs::Doc;
 use std::alloc::{AllocError, Global};
+use views::span_of;
 
 /// So many characters of a token are looked at for a message, which shows fewer.
 const MOST_CHARACTERS: usize = 1_024;
@@ -65,19 +70,18 @@ pub(crate) fn span_of_range(doc: &Doc, range: Range) -> Span {
 pub(crate) fn span_of_token(doc: &Doc, number: usize) -> Span
     ensures ordered { result.start ≤ result.end }
     ensures within { result.end ≤ length doc.now.text }
+    ensures is { (language : LanguageData) → IsCurrent language doc.now →
+        let tokens = placed_parts language.file (map plain doc.now.tokens.items) in
+        (result.start, result.end) ≡ fault_span doc.now.text (slice_get tokens number) }
 {
     let (tokens, end) = (doc.tokens(), doc.characters().len());
     if number >= tokens.significant() {
         return Span { start: end, end };
     }
-    let place = tokens.place(number);
-    let start = tokens.start_of(place).min(end);
-    let length = match tokens.token(place) {
-        Some(token) => token.length as usize,
-        None => 0,
-    };
+    let part = span_of(tokens, number);
+    let end = part.end.min(end);
     Span {
-        start,
-        end: start.saturating_add(length).min(end),
+        start: part.start.min(end),
+        end,
     }
 }

@@ -1,13 +1,10 @@
-//! What callers rely on of what editors show of a faulty document: `mending`, `faults`, and the
-//! folds and selections of `outline`.
+//! What callers rely on of what editors show of a faulty document: `mending`, and the folds and
+//! selections of `outline`.
 
-ghost use Rattle.std.specs.Prelude.{◌≡◌, [], ◌≤◌, List, IfOk, IfSome, length};
+ghost use Rattle.std.specs.Prelude.{◌≡◌, [], List, IfOk, IfSome};
 ghost use Rattle.definitions.specs.Sentences.{IsSentence, IsTreeOf};
 ghost use Rattle.definitions.specs.TreeEdits.{plain};
 ghost use Rattle.definitions.specs.declared.Kind.{Kind as TokenKind};
-ghost use Rattle.docs.specs.Docs.{IsCurrent};
-ghost use Rattle.faults.specs.Places.{AreInText};
-ghost use Rattle.lexer.specs.Rescans.{significant_kinds};
 ghost use Rattle.mending.specs.Mendings.{IsMendingOf};
 ghost use Rattle.tables.specs.Tables.{Sets};
 ghost use Rattle.trees.specs.Cells.{tree};
@@ -15,10 +12,8 @@ ghost use Rattle.trees.specs.declared.store.Child.{Child};
 
 use definitions::{Kind, Position, Range};
 use docs::{Doc, Language};
-use faults::{About, FaultBehind, Fix, Note, TextEdit, Words};
 use mending::{Change, Listed, Mending, Repair};
 use parser::Parse;
-use settings::{RuleText, Settings};
 use std::alloc::{AllocError, Global};
 use tables::Tables;
 use trees::{NodeId, Store};
@@ -107,110 +102,6 @@ pub fn change(change: Change) -> Option<usize> {
         Change::PutIn(rule) => Some(rule),
         Change::LeaveOut | Change::Keep => None,
     }
-}
-
-/// `faults::ranks`.
-pub fn ranks(alloc: Global, texts: &[Option<RuleText>]) -> Result<Vec<u8>, AllocError>
-    ensures { IfOk result (λ ranks. length ranks.items ≡ length texts.now) }
-{
-    faults::ranks(alloc, texts)
-}
-
-/// `faults::mended`.
-pub fn mended(
-    alloc: Global,
-    language: &Language,
-    texts: &[Option<RuleText>],
-    doc: &Doc,
-) -> Result<Option<Mending>, AllocError>
-    requires { IsCurrent language.now doc.now }
-    ensures { IfOk result (λ found. IfSome found
-        (IsMendingOf language.now.tables (significant_kinds doc.now.tokens.items))) }
-{
-    faults::mended(alloc, language, texts, doc)
-}
-
-/// `faults::words_of_fault`.
-pub fn words_of_fault(
-    alloc: Global,
-    language: &Language,
-    settings: &Settings,
-    doc: &Doc,
-) -> Result<Option<Words>, AllocError>
-    requires { IsCurrent language.now doc.now }
-{
-    faults::words_of_fault(alloc, language, settings, doc)
-}
-
-/// `Words`.
-pub fn words(words: Words) -> (String, Option<String>) {
-    let Words { message, related } = words;
-    (message, related)
-}
-
-/// `faults::behind`.
-pub fn behind(
-    alloc: Global,
-    language: &Language,
-    settings: &Settings,
-    doc: &Doc,
-    mending: &Mending,
-) -> Result<Vec<FaultBehind>, AllocError>
-    ensures places { IfOk result (λ faults. AreInText doc.now.unit doc.now.text faults.items) }
-    ensures few { IfOk result (λ faults. length faults.items ≤ 19) }
-{
-    faults::behind(alloc, language, settings, doc, mending)
-}
-
-/// `FaultBehind`, and `Note`.
-pub fn fault_behind(fault: FaultBehind) -> (Range, String, Option<String>, Range, String) {
-    let FaultBehind {
-        range,
-        message,
-        related,
-        condition,
-    } = fault;
-    let Note { range: place, text } = condition;
-    (range, message, related, place, text)
-}
-
-/// `About`, and `About::fixes`.
-pub fn fixes<'a>(
-    alloc: Global,
-    language: &'a Language,
-    settings: &'a Settings,
-    texts: &'a [Option<RuleText>],
-    doc: &'a Doc,
-    mending: &'a Mending,
-    range: Range,
-) -> Result<Vec<Fix>, AllocError> {
-    let about = About {
-        alloc,
-        language,
-        settings,
-        texts,
-        doc,
-        mending,
-    };
-    about.fixes(range)
-}
-
-/// `Fix`.
-pub fn fix(fix: Fix) -> (String, bool, Range, String, Vec<TextEdit>) {
-    let Fix {
-        title,
-        is_preferred,
-        range,
-        message,
-        edits,
-    } = fix;
-    (title, is_preferred, range, message, edits)
-}
-
-/// `TextEdit`.
-pub fn text_edit(edit: TextEdit) -> (Range, String) {
-    let TextEdit { range, text } = edit;
-    (range, text)
 }
 
 /// `outline::mended_folds`.

@@ -2,6 +2,7 @@
 //! `faults`, `outline` and `hover`. It is written as `surface_texts` is.
 #![tactic(auto)]
 
+mod behind;
 mod documents;
 mod faulty;
 mod languages;
