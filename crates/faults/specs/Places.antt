@@ -28,6 +28,6 @@ span_of_fault t tokens r = fault_span t (slice_get tokens (fault_number r))
 abbrev pub ranges_behind : Encoding → List ℕ → List Placed → List Repair → List Range
 ranges_behind encoding t tokens repairs = map (λ r. range_of encoding t (span_of_fault t tokens r)) (take 19 (drop 1 repairs))
 
--- what is said of the fault before each of the faults lies in the text
+-- each of the faults lies in the text, and so does what is said of the one before it
 abbrev pub AreInText : Encoding → List ℕ → List FaultBehind → Type 0
-AreInText encoding t faults = All (λ fault. IsInText encoding t fault.condition.range) faults
+AreInText encoding t faults = All (λ fault. IsInText encoding t fault.range × IsInText encoding t fault.condition.range) faults

@@ -58,8 +58,8 @@ pub fn behind(
         let tokens = placed_parts language.file (map plain doc.now.tokens.items) in
         IfOk result (λ faults. map (λ fault. fault.range) faults.items
         ≡ ranges_behind doc.now.unit doc.now.text tokens mending.now.repairs.items) }
-    ensures conditions { IfOk result (λ faults.
-        AreInText doc.now.unit doc.now.text faults.items) }
+    ensures places { IfOk result (λ faults. AreInText doc.now.unit doc.now.text faults.items) }
+    ensures few { IfOk result (λ faults. length faults.items ≤ 19) }
 {
     match mending.repairs().split_first() {
         Some((first, later)) => {
@@ -84,8 +84,8 @@ fn faults_of(
         let span = span_of_fault doc.now.text tokens in
         IfOk result (λ faults. map (λ fault. fault.range) faults.items
         ≡ map (λ r. range_of doc.now.unit doc.now.text (span r)) later.now) }
-    ensures conditions { IfOk result (λ faults.
-        AreInText doc.now.unit doc.now.text faults.items) }
+    ensures places { IfOk result (λ faults. AreInText doc.now.unit doc.now.text faults.items) }
+    ensures count { IfOk result (λ faults. length faults.items ≡ length later.now) }
 {
     let mut faults = Vec::new(alloc);
     let mut before = first;
@@ -130,8 +130,8 @@ fn fault_behind(
         let tokens = placed_parts language.file (map plain doc.now.tokens.items) in
         let span = span_of_fault doc.now.text tokens repair.now in
         IfOk result (λ fault. fault.range ≡ range_of doc.now.unit doc.now.text span) }
-    ensures condition { IfOk result (λ fault.
-        IsInText doc.now.unit doc.now.text fault.condition.range) }
+    ensures places { IfOk result (λ fault. IsInText doc.now.unit doc.now.text fault.range
+        × IsInText doc.now.unit doc.now.text fault.condition.range) }
 {
     let Words { message, related } = words_at(
         alloc,

@@ -1,6 +1,6 @@
 //! What callers rely on of `faults`.
 
-ghost use Rattle.std.specs.Prelude.{◌≡◌, IfOk, IfSome, length, map};
+ghost use Rattle.std.specs.Prelude.{◌≡◌, ◌≤◌, IfOk, IfSome, length, map};
 ghost use Rattle.docs.specs.Docs.{IsCurrent};
 ghost use Rattle.docs.specs.Languages.{LanguageData};
 ghost use Rattle.faults.specs.Places.{AreInText, ranges_behind};
@@ -67,8 +67,8 @@ pub fn behind(
         let tokens = placed_parts language.file (map plain doc.now.tokens.items) in
         IfOk result (λ faults. map (λ fault. fault.range) faults.items
         ≡ ranges_behind doc.now.unit doc.now.text tokens mending.now.repairs.items) }
-    ensures conditions { IfOk result (λ faults.
-        AreInText doc.now.unit doc.now.text faults.items) }
+    ensures places { IfOk result (λ faults. AreInText doc.now.unit doc.now.text faults.items) }
+    ensures few { IfOk result (λ faults. length faults.items ≤ 19) }
 {
     faults::behind(alloc, language, settings, doc, mending)
 }

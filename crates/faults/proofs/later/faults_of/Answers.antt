@@ -1,4 +1,4 @@
-use Rattle.std.proofs.Common.{◌∙◌, ◌∷◌, ◌++◌, [], ap, map, subst, sym}
+use Rattle.std.proofs.Common.{◌∙◌, ◌∷◌, ◌++◌, [], ap, arith, length, length-append, map, subst, sym}
 use Rattle.std.proofs.lemmas.List.{map-append, map_more}
 use Rattle.std.proofs.lemmas.List.Elements.{All-push}
 use Rattle.definitions.specs.Answers.{range_of}
@@ -24,6 +24,7 @@ loop-repair-preserved c =
           let here = c.in_ok-fault_behind.ensures.range language current ∙ ap range c.repair-item.is in
           ap (map (λ (f : FaultBehind). f.range)) pushed ∙ map-append (λ (f : FaultBehind). f.range) old (fault ∷ [])
           ∙ (λ i. told i ++ here i ∷ []) ∙ sym (map_more range c.args.later.now c.loop-repair.repair-index item c.loop-repair-test.true);
-      conditions = subst (AreInText unit text) (sym pushed)
-          (All-push (λ f. IsInText unit text f.condition.range) old fault c.loop-repair.invariant.conditions c.in_ok-fault_behind.ensures.condition);
+      places = subst (AreInText unit text) (sym pushed)
+          (All-push (λ f. IsInText unit text f.range × IsInText unit text f.condition.range) old fault c.loop-repair.invariant.places c.in_ok-fault_behind.ensures.places);
+      count = let longer = ap length pushed ∙ length-append old (fault ∷ []) in omega (arith, longer, c.loop-repair.invariant.count);
     }
