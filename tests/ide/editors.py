@@ -191,17 +191,17 @@ def eglot(folder: str, draws: bool) -> List[str]:
 
 
 def emacs_faults(
-    name: str, heading: str, folder: str, draws: bool, takes: List[str], symbols: List[str]
+    name: str, heading: str, folder: str, draws: bool, takes: List[str], outline: Look
 ) -> List[str]:
-    """Three faults, their messages, the outline behind them, and the first one mended by a fix."""
+    """Three faults, their messages, the outline behind the first one, and that one mended by a fix."""
     init = placed(folder, "init.el", EMACS_BEFORE + words_of(heading))
     words = ["emacs", "-nw", "-q", "-l", init, "text.script"]
     listed = ["M-x", "text:flymake-show-buffer-diagnostics", "Enter"]
     looks: List[Look] = [
         ([], ["[3 0]"], [], False),
         (listed, [FIRST_FAULT, 'unexpected ";"', 'unexpected "name"'], [], True),
-        (["C-x", "1", "M-x", "text:imenu", "Enter", "Tab", "Tab"], symbols, [], False),
-        (["C-g", "C-g", "C-g", "C-x", "1"], ["[3 0]"], ["Index item", "*Rescan*"], False),
+        (["C-x", "1", "M-<"], ["L1"], [FIRST_FAULT], False),
+        outline,
         (["M-<", "C-n", "C-n", "M-m"], ["L3"], [], False),
         (takes, [MENDED_LINE, "[2 0]"], [], False),
     ]
@@ -210,16 +210,18 @@ def emacs_faults(
 
 def eglot_faults(folder: str, draws: bool) -> List[str]:
     takes = ["M-x", "text:eglot-code-actions", "Enter", "Enter"]
-    return emacs_faults(
-        "eglot", "Emacs with eglot", folder, draws, takes, ["*Rescan*", "Function", "Variable"]
-    )
+    # This eglot has the symbols by their kinds.
+    goes = ["M-x", "text:imenu", "Enter", "text:Function", "Enter", "text:main", "Enter"]
+    outline: Look = (goes, ["L6"], [], False)
+    return emacs_faults("eglot", "Emacs with eglot", folder, draws, takes, outline)
 
 
 def lsp_mode_faults(folder: str, draws: bool) -> List[str]:
     # The only fix is taken without a question.
     takes = ["M-x", "text:lsp-execute-code-action", "Enter"]
-    symbols = ["*Rescan*", "\narea\n", "\nmain\n"]
-    return emacs_faults("lsp-mode", "Emacs with lsp-mode", folder, draws, takes, symbols)
+    lists = ["M-:", "text:(mapcar (quote car) (imenu--make-index-alist t))", "Enter"]
+    outline: Look = (lists, ['"area" "main"'], [], False)
+    return emacs_faults("lsp-mode", "Emacs with lsp-mode", folder, draws, takes, outline)
 
 
 def vim_ale_faults(folder: str, draws: bool) -> List[str]:

@@ -58,8 +58,9 @@ answers = (server.stdout, sys.stdout.buffer, "answers")
 threading.Thread(target=copy, args=answers, daemon=True).start()
 copy(sys.stdin.buffer, server.stdin, "questions")
 """
-# The third line of the text on the screen, which has the numbers.
+# The third line of the text on the screen, which has the numbers; and the third and the fourth.
 LINE = "560x18+85+145"
+TWO_LINES = "560x38+85+145"
 METHODS = ("textDocument/semanticTokens", "textDocument/documentSymbol", "textDocument/completion")
 OFFERED = '"label":"true"'
 
@@ -201,12 +202,25 @@ def made_small(picture: str) -> None:
     subprocess.run([*words, "-define", "png:compression-level=9", picture], check=True)
 
 
+def marked(kate: Kate) -> int:
+    """How many points of the two lines with faults are light red, as Kate draws such a line."""
+    path = kate.picture(os.path.join(kate.folder, "lines.png"), "-crop", TWO_LINES)
+    words = ["convert", path, "-format", "%c", "histogram:info:-"]
+    counts = subprocess.run(words, capture_output=True, text=True, timeout=30, check=True).stdout
+    points = re.findall(r"(\d+): \((\d+),(\d+),(\d+)", counts)
+    return sum(int(n) for n, red, green, _ in points if int(red) > 245 and 215 < int(green) < 240)
+
+
 def faults(folder: str, settings: str, picture: Optional[str]) -> List[str]:
-    """What is wrong where Kate shows a text with three faults."""
+    """What is wrong where Kate has a text with three faults on two lines: what it was sent, and
+    what it draws."""
     with Kate(folder, settings, FAULTY) as kate:
         for part in (*FAULTS, *NAMES):
             if not kate.waits(lambda: part in kate.logged("answers")):
                 return [f"kate, faults: never got {part}"]
+        # More than one line has.
+        if not kate.waits(lambda: marked(kate) > 12_000):
+            return [f"kate, faults: only {marked(kate)} points of two lines are marked"]
         if picture:
             # The button "LSP" below the text, which shows what is said of the faults.
             kate.press("mousemove", "254", "454", "click", "1")
@@ -214,7 +228,7 @@ def faults(folder: str, settings: str, picture: Optional[str]) -> List[str]:
             kate.picture(picture, "-crop", "733x466+0+0")
     if picture and shutil.which("convert"):
         made_small(picture)
-    print("kate: three faults, and the outline behind the first")
+    print("kate: three faults on two marked lines; it was sent the outline behind the first")
     return []
 
 
