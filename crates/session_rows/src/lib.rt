@@ -2,8 +2,8 @@
 //! ends, follows from the contract of `run`, and from laws of the crates below.
 //!
 //! A session may also end because a device gave out or memory was refused: an `Input` can be read
-//! so many times, and then fails, and bytes that are written take memory. Then a prefix of what is
-//! written else was written.
+//! so many times, and then fails, and bytes that are written take memory. What was written until
+//! then is a prefix of the session's bytes.
 #![tactic(auto)]
 
 mod any_session;
