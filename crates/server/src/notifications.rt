@@ -8,7 +8,7 @@ ghost use Rattle.sessions.specs.Documents.{has_room};
 ghost use Rattle.sessions.specs.Sent.{sent};
 ghost use Rattle.sessions.specs.Steps.{State, new_document, exit_status, Changes, Closes, Holds, OnMalformed, Opens, Spoils, OnNotification};
 ghost use Rattle.server.specs.Holding.{entry_view, IsEntryOf};
-ghost use Rattle.server.specs.States.{state_view};
+ghost use Rattle.server.specs.States.{language_of, state_view};
 
 use crate::answers::publish;
 use crate::changes::apply_changes;
@@ -55,10 +55,11 @@ impl Server {
     /// Holds what a document became, and publishes it.
     fn hold(&mut self, alloc: Global, uri: String, entry: Entry) -> Result<Out, AllocError>
         requires { IsEntryOf self.old.documents.language entry }
-        ensures { let state = entry_view entry in
+        ensures step { let state = entry_view entry in
             IfOk result (λ out.
             let old = state_view self.old in
             Holds old (string_bytes uri) state (sent out) out.stop (state_view self.new)) }
+        ensures language { language_of self.new ≡ language_of self.old }
     {
         let out = self.announce(alloc, uri.as_str(), &entry);
         self.documents.insert(uri, entry)?;
@@ -74,11 +75,12 @@ impl Server {
         version: i32,
         text: String,
     ) -> Result<Out, AllocError>
-        ensures { let old = state_view self.old in
+        ensures step { let old = state_view self.old in
             let room = has_room (string_bytes uri) old.documents in
             let state = new_document unit version (chars (string_bytes text)) in
             IfOk result (λ out.
             Opens room old (string_bytes uri) state (sent out) out.stop (state_view self.new)) }
+        ensures language { language_of self.new ≡ language_of self.old }
     {
         if !self.documents.has_room(uri.as_str()) {
             return one_log(alloc, Log::TooManyDocuments);
@@ -98,12 +100,13 @@ impl Server {
         version: i32,
         changes: &[Change],
     ) -> Result<Out, AllocError>
-        ensures { let old = state_view self.old in
+        ensures step { let old = state_view self.old in
             let uri = string_bytes uri in
             let changes = map change_view changes.now in
             IfOk result (λ out.
             Changes (get old.documents uri) old uri version changes (sent out) out.stop
             (state_view self.new)) }
+        ensures language { language_of self.new ≡ language_of self.old }
     {
         match self.documents.get(uri.as_str()) {
             None => return one_log(alloc, Log::ChangeNotOpen),
@@ -120,10 +123,11 @@ impl Server {
 
     /// A `textDocument/didChange` of this document that doesn't fit: an open document is lost.
     fn on_malformed_change(&mut self, alloc: Global, uri: String) -> Result<Out, AllocError>
-        ensures { let old = state_view self.old in
+        ensures step { let old = state_view self.old in
             let uri = string_bytes uri in
             IfOk result (λ out.
             Spoils (get old.documents uri) old uri (sent out) out.stop (state_view self.new)) }
+        ensures language { language_of self.new ≡ language_of self.old }
     {
         match self.documents.get(uri.as_str()) {
             None => one_log(alloc, Log::ChangeNotOpen),
@@ -134,10 +138,11 @@ impl Server {
 
     /// `textDocument/didClose`.
     fn close(&mut self, alloc: Global, uri: String) -> Result<Out, AllocError>
-        ensures { let old = state_view self.old in
+        ensures step { let old = state_view self.old in
             let uri = string_bytes uri in
             IfOk result (λ out.
             Closes (get old.documents uri) old uri (sent out) out.stop (state_view self.new)) }
+        ensures language { language_of self.new ≡ language_of self.old }
     {
         if !self.documents.remove(uri.as_str()) {
             return one_log(alloc, Log::CloseNotOpen);
@@ -147,9 +152,10 @@ impl Server {
 
     /// A notification whose parameters don't fit.
     fn on_malformed(&mut self, alloc: Global, malformed: Malformed) -> Result<Out, AllocError>
-        ensures { IfOk result (λ out.
+        ensures step { IfOk result (λ out.
             let unfit = malformed_view malformed in
             OnMalformed (state_view self.old) unfit (sent out) out.stop (state_view self.new)) }
+        ensures language { language_of self.new ≡ language_of self.old }
     {
         match malformed {
             Malformed::DidOpen => one_log(alloc, Log::OpenMalformed),
@@ -161,9 +167,10 @@ impl Server {
 
     /// Makes the step on a notification, whether or not it fits its method.
     pub(crate) fn on_notification(&mut self, alloc: Global, note: Note) -> Result<Out, AllocError>
-        ensures { IfOk result (λ out.
+        ensures step { IfOk result (λ out.
             OnNotification self.old.phase (state_view self.old) (note_view note) (sent out)
             out.stop (state_view self.new)) }
+        ensures language { language_of self.new ≡ language_of self.old }
     {
         match (self.phase, note) {
             (phase, Note::Exit) => Ok(Out {

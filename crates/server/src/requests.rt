@@ -91,10 +91,11 @@ impl Server {
         id: Id,
         call: Call,
     ) -> Result<Out, AllocError>
-        ensures { IfOk result (λ out.
+        ensures step { IfOk result (λ out.
             let old = state_view self.old in
             OnRequest self.old.phase old (id_view id) (call_view call) (sent out) out.stop
             (state_view self.new)) }
+        ensures language { language_of self.new ≡ language_of self.old }
     {
         let (uri, question) = match (self.phase, call) {
             (Phase::New, Call::Initialize { unit }) => {

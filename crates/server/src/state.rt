@@ -71,9 +71,10 @@ impl Server {
 
     /// The step on a message.
     fn step(&mut self, alloc: Global, message: Result<Message, RpcFault>) -> Result<Out, AllocError>
-        ensures { IfOk result (λ out.
+        ensures step { IfOk result (λ out.
             StepOn (received_of message) (state_view self.old) (sent out) out.stop
             (state_view self.new)) }
+        ensures language { language_of self.new ≡ language_of self.old }
     {
         match message {
             Ok(Message::Request(id, call)) => self.on_request(alloc, id, call),
@@ -102,6 +103,7 @@ impl Server {
         ensures failed { has_failed self.old ≡ true → IsErr result }
         ensures err { OnErr result (has_failed self.new ≡ true) }
         ensures ok { OnOk result (has_failed self.new ≡ false) }
+        ensures language { language_of self.new ≡ language_of self.old }
     {
         if self.has_failed {
             return Err(AllocError);

@@ -2,7 +2,7 @@
 
 ghost use Rattle.std.specs.Prelude.{◌≡◌, false, true, IfOk, OnOk, OnErr, IsErr, ◌↔◌, ℕ, List, All, IsErrOf, map, string_bytes, IfErr, IsTrue, []};
 ghost use Rattle.sessions.specs.Steps.{first_state, StepOn};
-ghost use Rattle.server.specs.States.{has_failed, state_view};
+ghost use Rattle.server.specs.States.{has_failed, language_of, state_view};
 ghost use Rattle.rpc.specs.Messages.{received_of, Received};
 ghost use Rattle.sessions.specs.Sent.{sent};
 ghost use Rattle.rpc.specs.Reading.{Receives};
@@ -58,6 +58,7 @@ pub fn handle(
     ensures failed { has_failed server.old ≡ true → IsErr result }
     ensures err { OnErr result (has_failed server.new ≡ true) }
     ensures ok { OnOk result (has_failed server.new ≡ false) }
+    ensures language { language_of server.new ≡ language_of server.old }
 {
     server.handle(alloc, message)
 }

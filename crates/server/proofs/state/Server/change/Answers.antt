@@ -3,8 +3,8 @@ use Rattle.rpc.specs.Loss.TheVariants.{Memory}
 use Rattle.server.proofs.Holding.{changes_open, state_same}
 use Rattle.server.proofs.state.Server.change.Goals as goal
 
-pub returns : goal.returns
-returns c =
+pub returns-clause-step : goal.returns-clause-step
+returns-clause-step c =
     let old = c.args.self.now in
     let uri = string_bytes c.args.uri in
     let documents = old.documents.documents in
@@ -20,4 +20,4 @@ returns c =
     let by_language = subst (λ (v : ℤ). Becomes (c.language.result.now.file) v d changes (entry_view entry)) (to_z-of_z w32 c.args.version c.ranges.version) c.apply_changes-entry.ensures.becomes in
     let becomes : Becomes old.documents.language.file c.args.version d changes (entry_view entry) = subst (λ l. Becomes (l.file) c.args.version d changes (entry_view entry))
     (c.language.ensures ∙ c.take.ensures.language) by_language in
-    IfOk-weaker c.hold.result _ _ (λ out holds. changes_open (state_view old) _ uri (is_lost Memory) d c.args.version changes (entry_view entry) _ _ _ held mid becomes holds) c.hold.ensures
+    IfOk-weaker c.hold.result _ _ (λ out holds. changes_open (state_view old) _ uri (is_lost Memory) d c.args.version changes (entry_view entry) _ _ _ held mid becomes holds) c.hold.ensures.step

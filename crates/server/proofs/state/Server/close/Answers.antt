@@ -2,8 +2,8 @@ use Rattle.server.proofs.Common.{◌≡◌, ap, sym, ◌∙◌, string_bytes, No
 use Rattle.server.proofs.Holding.{closes_none, state_same}
 use Rattle.server.proofs.state.Server.close.Goals as goal
 
-pub returns-then-not-remove : goal.returns-then-not-remove
-returns-then-not-remove c =
+pub returns-then-not-remove-clause-step : goal.returns-then-not-remove-clause-step
+returns-then-not-remove-clause-step c =
     let old = c.args.self.now in
     let uri = string_bytes c.args.uri in
     let none : get old.documents.documents c.as_str.result.now ≡ None = none_is _ (sym c.remove.ensures.is ∙ c.if-not-remove.true) in

@@ -2,8 +2,8 @@ use Rattle.server.proofs.Common.{List, ℕ, string_bytes, ap, sym, subst, Langua
 use Rattle.server.proofs.Holding.{state_of, state_same}
 use Rattle.server.proofs.state.Server.hold.Goals as goal
 
-pub returns : goal.returns
-returns c =
+pub returns-clause-step : goal.returns-clause-step
+returns-clause-step c =
     let old = state_view c.args.self.now in
     let uri = string_bytes c.args.uri in
     let state = entry_view c.args.entry in

@@ -2,8 +2,8 @@ use Rattle.server.proofs.Common.{◌≡◌, List, ℕ, ℤ, w32, ap, sym, ◌∙
 use Rattle.server.proofs.Holding.{holds_removed, opens_room, state_same}
 use Rattle.server.proofs.state.Server.open.Goals as goal
 
-pub returns : goal.returns
-returns c =
+pub returns-clause-step : goal.returns-clause-step
+returns-clause-step c =
     let old = c.args.self.now in
     let uri = string_bytes c.args.uri in
     let documents = old.documents.documents in
@@ -16,4 +16,4 @@ returns c =
     let removed = c.remove.ensures.documents ∙ ap (remove documents) c.as_str-2.ensures.value in
     let mid = state_same _ _ old.phase _ _ (ap (λ (l : LanguageData). l.file) c.remove.ensures.language) removed in
     IfOk-weaker c.hold.result _ _ (λ out holds. opens_room _ (state_view old) uri made state _ _ _ (holds_removed (state_view old) _ uri made _ _ _ mid holds) same
-    (spelled ∙ (sym c.has_room.ensures ∙ c.if-not-has_room.false))) c.hold.ensures
+    (spelled ∙ (sym c.has_room.ensures ∙ c.if-not-has_room.false))) c.hold.ensures.step
