@@ -1,4 +1,4 @@
-"""Tables in Markdown, and charts in SVG with logarithmic axes, made without a library."""
+"""Tables, in columns or in Markdown, and charts in SVG with logarithmic axes, made without a library."""
 
 import math
 from typing import Iterable, List, Sequence, Tuple
@@ -15,6 +15,16 @@ def markdown(head: Sequence[str], rows: Iterable[Sequence[str]]) -> str:
     """A table: its column titles, and its rows of texts."""
     lines = ["| " + " | ".join(head) + " |", "|" + "---|" * len(head)]
     return "\n".join(lines + ["| " + " | ".join(row) + " |" for row in rows]) + "\n"
+
+
+def show(head: Sequence[str], rows: Sequence[Sequence[str]], is_markdown: bool) -> None:
+    """Prints a table."""
+    if is_markdown:
+        print(markdown(head, rows))
+        return
+    widths = [max(map(len, column)) for column in zip(head, *rows)]
+    for cells in [head, *rows]:
+        print("  ".join(cell.ljust(width) for cell, width in zip(cells, widths)).rstrip())
 
 
 def decades(values: Sequence[float]) -> Decades:
