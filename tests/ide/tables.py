@@ -233,6 +233,7 @@ MESSAGES: List[Tuple[str, str, str, Optional[str]]] = [
         OPERATORS.replace("(DOT), ", '(DOT), "=" (ASSIGN), '),
     ),
     ("json", "[1 2]", 'unexpected "2"; expected "," or "]"', None),
+    ("json", '[1 "a"]', 'unexpected \'"a"\'; expected "," or "]"', None),
     (
         "json",
         "",

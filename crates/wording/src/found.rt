@@ -1,6 +1,6 @@
 //! What stands where something else was expected.
 
-use crate::words::{can_be_shown, word};
+use crate::words::{can_be_shown, quote_of, word};
 use grammar::Grammar;
 use settings::Settings;
 use std::alloc::{AllocError, Global};
@@ -57,19 +57,22 @@ fn has_break_inside(text: &str) -> bool {
     text.trim_matches(|c| c == '\r' || c == '\n').contains('\n')
 }
 
-/// A text of a document in quotes: its first line, and of that the first 30 characters. Where
-/// something is left out, two dots say so.
+/// A text of a document in quotes, which are single ones where it has double ones and no single
+/// one: its first line, and of that the first 30 characters. Where something is left out, two dots
+/// say so.
 ///
 /// Refuses for memory alone.
 pub fn shown(alloc: Global, text: &str) -> Result<String, AllocError> {
-    let mut shown = String::from_str(alloc, "\"")?;
+    let quote = quote_of(text);
+    let mut shown = String::new(alloc);
+    shown.push(quote)?;
     for (count, character) in text.chars().enumerate() {
         if count == LONG || character == '\n' || character == '\r' {
-            shown.push_str("..\"")?;
-            return Ok(shown);
+            shown.push_str("..")?;
+            break;
         }
         shown.push(character)?;
     }
-    shown.push('"')?;
+    shown.push(quote)?;
     Ok(shown)
 }

@@ -24,7 +24,10 @@ pub fn word(
         return word.clone();
     }
     match text_of(alloc, grammar, settings, rule)? {
-        Some(text) if can_be_shown(&text) => format!(in alloc; "\"{text}\""),
+        Some(text) if can_be_shown(&text) => {
+            let quote = quote_of(&text);
+            format!(in alloc; "{quote}{text}{quote}")
+        }
         _ => String::from_str(alloc, grammar.kind_name(Kind::Rule(rule))),
     }
 }
@@ -77,6 +80,15 @@ pub fn is_operator(settings: &Settings, rule: usize) -> bool
 {
     matches!(settings.colours.get(rule), Some(Some(OPERATOR)))
         && !matches!(settings.words.get(rule), Some(Some(_)))
+}
+
+/// The quote in which messages show a text: a single one where that sets it off better.
+pub fn quote_of(text: &str) -> char {
+    if text.contains('"') && !text.contains('\'') {
+        '\''
+    } else {
+        '"'
+    }
 }
 
 /// Whether each character of a text can be shown.
