@@ -12,7 +12,7 @@ from tests import TOP
 from tests.common import serving
 from tests.common.cases import Cases
 from tests.common.serving import received
-from tests.ide import crates, faulty, languages, sessions, tables, trouble
+from tests.ide import behind, crates, faulty, languages, sessions, tables, trouble
 from tests.ide import written as written_files
 from tests.ide.client import (
     Client,
@@ -138,14 +138,16 @@ def faulty_outline(
 
 
 def completion(cases: Cases, _: str) -> None:
-    """What is offered at the end of each prefix of two samples, of some of a third one, and at each
-    place of rows."""
+    """What is offered at the end of each prefix of two samples and of some of a third one that has no
+    fault before its last word, and at each place of rows."""
     for name, step in (("script.txt", 1), ("json.json", 1), ("toml.toml", 5)):
         language, text = name.split(".")[0], sample(name)
         offers = Offers(language)
         offers.expected(offers.kinds(text) or ())
         with Client(language) as client:
             for size in range(0, len(text) + 1, step):
+                if offers.is_behind_fault(text[:size]):
+                    continue
                 client.open(URI, text[:size], size)
                 found = client.ask_at("completion", URI, place(text, size))["items"]
                 labels = [item["label"] for item in found]
@@ -252,6 +254,7 @@ def unchanged(cases: Cases, _: str) -> None:
 
 GROUPS: List[Group] = [
     *(colours, early, outline, completion, messages, hovers, unchanged),
+    *behind.GROUPS,
     *crates.GROUPS,
     *faulty.GROUPS,
     *sessions.GROUPS,

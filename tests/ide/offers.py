@@ -3,7 +3,7 @@ nothing of `lrls`."""
 
 import os
 import re
-from typing import Any, Dict, List, Optional, Tuple
+from typing import Any, Dict, List, Optional, Set, Tuple
 
 from tests import TOP
 from tests.oracles import trees
@@ -24,6 +24,7 @@ class Offers:
         found = [LITERAL.fullmatch(line) for line in text.split("\n")]
         self.texts = {match.group(1): match.group(2).replace("\\", "") for match in found if match}
         self.known: Dict[Any, List[str]] = {}
+        self.begun: Set[Any] = set()
 
     def kinds(self, text: str) -> Optional[Tuple[Any, ...]]:
         """The tokens of a text, with one more at its end that none of them takes in; None where
@@ -39,15 +40,27 @@ class Offers:
             chart = self.trees.Chart(self.grammar, [*kinds, ""])
             for place in range(len(chart.sets)):
                 nexts = {side[dot] for _, side, dot, _ in chart.sets[place] if dot < len(side)}
+                self.begun.add(kinds[:place])
                 self.known[kinds[:place]] = [name for name in self.grammar.names() if name in nexts]
             self.known.setdefault(kinds, [])
         return self.known[kinds]
+
+    def goes_on(self, kinds: Tuple[Any, ...]) -> bool:
+        """Whether some sentence begins with these tokens."""
+        self.expected(kinds)
+        return kinds in self.begun
 
     def takes_letters(self, text: str) -> bool:
         """Whether a letter that is typed at the end of a text, where no word is begun, goes into
         its last token, as into a comment that no STRANGER goes into."""
         tokens = self.grammar.tokens(text + "q")
         return not WORD.search(text) and bool(tokens) and tokens[-1][1] < len(text)
+
+    def is_behind_fault(self, text: str) -> bool:
+        """Whether a fault stands before the word at the end of a text, but not right before it a
+        character that begins no token: what follows is then that of a mended copy."""
+        kinds = self.kinds(WORD.sub("", text)) or ()
+        return len(kinds) > 0 and kinds[-1] != "invalid" and not self.goes_on(kinds)
 
     def at_end(self, text: str) -> List[str]:
         """What may follow at the end of a text, where a word is begun that goes on with what is

@@ -318,7 +318,8 @@ OFFERS: List[Tuple[str, str, List[str]]] = [
     ("script", "let |", []),
     ("script", "let x|", []),
     ("script", "let x |", [";", "="]),
-    ("script", "let ? = 1; |", []),
+    ("script", "let ? = 1; le|", ["let"]),
+    ("script", "let ? = 1; let x |", [";", "="]),
     ("json", '{"a": t|}', ["true"]),
     ("json", "[1|]", []),
     ("json", "[1 |]", [",", "]"]),
@@ -344,7 +345,7 @@ HOVERS: List[Tuple[str, str]] = [
     ),
     ("let |x = f(1); // done", '**"x"** a name, variable\n\nNAME in Statement in Statement* in '),
     ("let x = f(1); //| done", '**"// done"** comment\n\nCOMMENT, skipped: it is in no node'),
-    ("let x = f(1); // done\n? |y", '**"y"** a name, variable\n\nNAME'),
+    ("let x = f(1); // done\n? |y", '**"y"** a name, variable\n\nNAME in Place in '),
     ("let x = 1;\n|? y", '**unexpected "?", which begins no token**\n\nExpected here:\n- "("'),
 ]
 
@@ -358,4 +359,6 @@ BRACKETS: List[Tuple[str, List[Span]]] = [
     ("f(1); f(|", []),
     ("f|oo();", []),
     ("f(1); g(|2); ?", [(0, 7, 0, 8), (0, 9, 0, 10)]),
+    ("x 1; g(|2);", [(0, 6, 0, 7), (0, 8, 0, 9)]),
+    ("f([|1 2);", []),
 ]

@@ -23,10 +23,17 @@ NOT_RUN = (
     "ide",
     "mending",
     "outline",
+    "own_replies",
+    "questions",
+    "reopening",
     "serving",
     "settings",
+    "shown",
     "wording",
 )
+
+# The crates that run examples.
+USERS = ("uses",)
 
 # The fewest and the most lines of a page.
 LINES_OF_PAGES = (10, 30)
@@ -62,9 +69,14 @@ def example_on(page: List[str]) -> List[str]:
     return page[edges[0] + 1 : edges[1]] if len(edges) == 2 else []
 
 
-def uses(top: str) -> Dict[str, List[str]]:
-    """The lines of each example that is run, by its crate."""
-    folder = os.path.join(top, "crates", "uses", "src")
+def plain(lines: List[str]) -> str:
+    """An example without its layout: a page may have in one line what `rt fmt` breaks."""
+    return re.sub(r",(?=[)}\]])", "", re.sub(r"\s+", "", "\n".join(lines)))
+
+
+def uses(top: str, user: str) -> Dict[str, List[str]]:
+    """The lines of each example that this crate runs, by the crate of the example."""
+    folder = os.path.join(top, "crates", user, "src")
     found = {}
     for name in sorted(os.listdir(folder)):
         for crate, body in USE.findall("\n".join(lines_of(os.path.join(folder, name)))):
@@ -73,10 +85,10 @@ def uses(top: str) -> Dict[str, List[str]]:
     return found
 
 
-def printed(top: str, examples: Dict[str, List[str]]) -> List[str]:
-    """What the comments say is printed, in the order in which the examples are run."""
+def printed(top: str, user: str, examples: Dict[str, List[str]]) -> List[str]:
+    """What the comments say is printed, in the order in which this crate runs the examples."""
     calls = re.findall(
-        r"::use_(\w+)\(", "\n".join(lines_of(os.path.join(top, "crates", "uses", "src", "main.rt")))
+        r"::use_(\w+)\(", "\n".join(lines_of(os.path.join(top, "crates", user, "src", "main.rt")))
     )
     return [
         line.strip()[len("// ") :]
@@ -89,7 +101,8 @@ def printed(top: str, examples: Dict[str, List[str]]) -> List[str]:
 def check(cases: Cases, top: str) -> None:
     """Each crate of the program has a page. That of a library has an example, which is run, and
     prints what its comments say."""
-    examples = uses(top)
+    run = {user: uses(top, user) for user in USERS}
+    examples = {crate: lines for found in run.values() for crate, lines in found.items()}
     fewest, most = LINES_OF_PAGES
     for crate in products(top):
         root = root_of(top, crate)
@@ -106,12 +119,13 @@ def check(cases: Cases, top: str) -> None:
             bool(example),
         )
         cases.check(
-            f"the page of {crate}: its example is that of crates/uses",
-            examples.get(crate, []),
-            [] if crate in NOT_RUN else example,
+            f"the page of {crate}: its example is the one that is run",
+            plain(examples.get(crate, [])),
+            "" if crate in NOT_RUN else plain(example),
         )
-    cases.check(
-        "each example of crates/uses is of a crate", set(), set(examples) - set(products(top))
-    )
-    awaited = lines_of(os.path.join(top, "crates", "uses", "stdout"))[:-1]
-    cases.check("the comments of crates/uses say what it prints", awaited, printed(top, examples))
+    cases.check("each example that is run is of a crate", set(), set(examples) - set(products(top)))
+    for user, found in run.items():
+        awaited = lines_of(os.path.join(top, "crates", user, "stdout"))[:-1]
+        cases.check(
+            f"the comments of crates/{user} say what it prints", awaited, printed(top, user, found)
+        )

@@ -8,13 +8,16 @@ use Rattle.std.specs.Char.Unicode.Numeric.{is_numeric, numeric_ranges}
 use Rattle.std.specs.Char.Unicode.Rows.{in_ranges}
 use Rattle.definitions.specs.declared.Kind.{Kind}
 use Rattle.definitions.specs.declared.Kind.TheVariants.{Rule, Invalid}
-use Rattle.definitions.specs.Sentences.{IsExpected}
+use Rattle.definitions.specs.Sentences.{IsExpected, IsViable}
 use Rattle.definitions.specs.Tokens.{AreTokens, Token}
 use Rattle.definitions.proofs.Ordered.{Contains-none}
 use Rattle.definitions.proofs.TokensUnique.{IsPiece-inside}
 use Rattle.readings.proofs.SumsRows.{after_number, num, plus, single, single_is, skips, sums, sums_file}
 use Rattle.readings.proofs.SumTokenRows.{InMemory, a_blank_token, a_plus_token, one_digit, patterns, token}
 use Rattle.settings.specs.declared.expressions.RuleText.{RuleText}
+use Rattle.mending.specs.declared.repair.Change.TheVariants.{Keep, LeaveOut, PutIn}
+use Rattle.mending.specs.declared.repair.Repair.{Repair}
+use Rattle.completion.specs.Mended.{As_mended, As_they_are, EndsInvalid, GoOnAs, Not_at_all, changed_before, mended_before}
 use Rattle.completion.specs.Offers.{AreOffers}
 use Rattle.completion.specs.Places.{AreBefore, EndsAt, Expected, Goes_into, IsLetter, MayFollow, typed, unskipped}
 use Rattle.completion.specs.Texts.{IsShown, IsTextOf}
@@ -91,6 +94,30 @@ sign_is_shown t e none = let f : codes "+" ≡ [] = sym e ∙ none in cc f
 blank_is_shown : (t : List ℕ) → trim t ≡ [] → IsShown t → ⊥
 blank_is_shown t e shown = shown e
 
+-- a number begins a sentence
+a_number : IsViable sums (num ∷ [])
+a_number = ([], (single, single_is))
+
+-- the kinds of `1 2 + ` are mended by a plus between the numbers: up to the fault they stay, and behind it nothing more is put in
+module _ (r : Repair) (begins : r.at ≡ 1) (fault : r.fault ≡ 1) (changes : r.changes.items ≡ PutIn 1 ∷ []) where
+  before_the_fault : mended_before (r ∷ []) (num ∷ []) ≡ num ∷ []
+  before_the_fault = rw fault refl
+
+  behind_the_fault : mended_before (r ∷ []) (num ∷ num ∷ []) ≡ num ∷ plus ∷ num ∷ []
+  behind_the_fault = rw (fault, begins, changes) refl
+
+  further_on : mended_before (r ∷ []) (num ∷ num ∷ plus ∷ []) ≡ num ∷ plus ∷ num ∷ plus ∷ []
+  further_on = rw (fault, begins, changes) refl
+
+-- a kind that is left out is no more there, and one that is kept stays; nothing is put in behind the last one
+changes_are_made : (changed_before (LeaveOut ∷ Keep ∷ PutIn 1 ∷ []) (num ∷ plus ∷ []) ≡ plus ∷ [])
+    × (changed_before (LeaveOut ∷ Keep ∷ PutIn 1 ∷ []) (num ∷ plus ∷ num ∷ []) ≡ plus ∷ plus ∷ num ∷ [])
+    × (changed_before (PutIn 1 ∷ []) [] ≡ []) × (changed_before [] (num ∷ []) ≡ num ∷ [])
+changes_are_made = (refl, refl, refl, refl)
+
+stops_short : EndsInvalid (num ∷ Invalid ∷ []) × (EndsInvalid (Invalid ∷ num ∷ []) → ⊥) × (EndsInvalid [] → ⊥)
+stops_short = (refl, (λ e. cc e), (λ e. cc e))
+
 -- the text `1 +`
 abbrev sum : List ℕ
 sum = codes "1 +"
@@ -165,30 +192,35 @@ module _ (at : InMemory) where
   nothing_before_the_end h = elim h [ inl e ↦ omega (arith, e.0) | inr e ↦ without_tokens sum 1 [] e ]
 
   -- after a number and a blank a plus, or the end
-  a_plus_follows : MayFollow (sums_file (patterns at)) sum tokens 2 (1 ∷ [])
-  a_plus_follows = Expected (Rule 0 ∷ Rule 4 ∷ []) number_and_blank true after_number
+  a_plus_follows : (repairs : List Repair) → MayFollow (sums_file (patterns at)) sum tokens repairs 2 (1 ∷ [])
+  a_plus_follows repairs = Expected (Rule 0 ∷ Rule 4 ∷ []) number_and_blank (num ∷ []) (As_they_are a_number refl) true after_number
 
   -- something follows at the start of a text
-  nothing_follows : MayFollow (sums_file (patterns at)) [] [] 0 [] → ⊥
+  nothing_follows : MayFollow (sums_file (patterns at)) [] [] [] 0 [] → ⊥
   nothing_follows (Goes_into none is) = none [] (inl (refl, refl))
-  nothing_follows (Expected before are at_end e) = elim are [
-    | inl first ↦ Contains-none 0 (((subst (λ ks. IsExpected sums (unskipped skips ks) [] at_end) first.1 e).each 0).1 ([], (single, single_is)))
+  nothing_follows (Expected before are kinds go at_end e) = elim are [
+    | inl first ↦ a_number_may (subst (λ ks. GoOnAs sums [] (unskipped skips ks) kinds) first.1 go)
     | inr ends ↦ without_tokens [] 0 before ends
   ]
+    where
+      a_number_may : GoOnAs sums [] [] kinds → ⊥
+      a_number_may (As_they_are v is) = Contains-none 0 (((subst (λ ks. IsExpected sums ks [] at_end) is e).each 0).1 ([], (single, single_is)))
+      a_number_may (As_mended not ends is) = not (num ∷ [], (single, single_is))
+      a_number_may (Not_at_all not ends is) = not (num ∷ [], (single, single_is))
 
   -- a rule's text is offered there, and not in the place of the blank
   plus_offered : (rule : RuleText) → string_bytes rule.text ≡ codes "+" → rule.any_case ≡ false
-      → AreOffers (sums_file (patterns at)) (None ∷ Some rule ∷ []) sum 2 2 ((1, codes "+") ∷ [])
+      → AreOffers (sums_file (patterns at)) (None ∷ Some rule ∷ []) [] sum 2 2 ((1, codes "+") ∷ [])
   plus_offered rule text case = record {
     word = no_word;
     tokens = tokens;
     are_tokens = are_tokens;
     rules = 1 ∷ [];
-    follow = a_plus_follows;
+    follow = a_plus_follows [];
     are = rw (text, case) refl;
   }
 
-  no_blank_replaced : (texts : List (Option RuleText)) (offers : List (ℕ × List ℕ)) → AreOffers (sums_file (patterns at)) texts sum 2 1 offers → ⊥
+  no_blank_replaced : (texts : List (Option RuleText)) (offers : List (ℕ × List ℕ)) → AreOffers (sums_file (patterns at)) texts [] sum 2 1 offers → ⊥
   unfolding is_alphabetic alphabetic_ranges is_numeric numeric_ranges in_ranges
   no_blank_replaced texts offers h = let e : false ≡ true = h.word.characters.1 1 (omega arith) (omega arith) in cc e
 

@@ -7,5 +7,7 @@ pub mod Looks
 pub mod Steps
 pub mod Significant
 pub mod Matches
+pub mod Mendings
+pub mod Goings
 pub mod Followers
 pub mod CompletionRows

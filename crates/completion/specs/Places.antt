@@ -5,6 +5,8 @@ use Rattle.definitions.specs.declared.expression.Expression.{Expression}
 use Rattle.definitions.specs.Sentences.{IsExpected}
 use Rattle.definitions.specs.Tokens.{Token, IsPiece, is_skipped}
 use Rattle.grammar.specs.Grammars.{FileGrammar}
+use Rattle.mending.specs.declared.repair.Repair.{Repair}
+use Rattle.completion.specs.Mended.{GoOnAs}
 
 -- a small letter of ASCII
 abbrev pub IsLetter : ℕ → Type 0
@@ -40,10 +42,11 @@ AreBefore rules t tokens o before = ((o ≡ 0) × (before ≡ [])) ⊎ EndsAt ru
 abbrev pub unskipped : List Bool → List Kind → List Kind
 unskipped skips kinds = filter (λ k. not (is_skipped skips k)) kinds
 
--- `MayFollow file t tokens o rules`: these are the rules that may follow at offset `o` of a text with these tokens: those that are
--- expected after the kinds before it, so none where no sentence begins with these; and none where each letter that is typed there goes
--- into a token
-pub data MayFollow (file : FileGrammar) (t : List ℕ) (tokens : List Token) (o : ℕ) (rules : List ℕ) : Type 0 where
-  Goes_into : ((before : List Kind) → ¬ AreBefore file.patterns t tokens o before) → rules ≡ [] → MayFollow file t tokens o rules
-  Expected : (before : List Kind) → AreBefore file.patterns t tokens o before → (at_end : Bool)
-      → IsExpected file.grammar (unskipped file.skips before) rules at_end → MayFollow file t tokens o rules
+-- `MayFollow file t tokens repairs o rules`: these are the rules that may follow at offset `o` of a text with these tokens: those that are
+-- expected after the kinds before it, as the repairs mend them where no sentence begins with them; and none where each letter that is typed
+-- there goes into a token
+pub data MayFollow (file : FileGrammar) (t : List ℕ) (tokens : List Token) (repairs : List Repair) (o : ℕ) (rules : List ℕ) : Type 0 where
+  Goes_into : ((before : List Kind) → ¬ AreBefore file.patterns t tokens o before) → rules ≡ [] → MayFollow file t tokens repairs o rules
+  Expected : (before : List Kind) → AreBefore file.patterns t tokens o before → (kinds : List Kind)
+      → GoOnAs file.grammar repairs (unskipped file.skips before) kinds → (at_end : Bool) → IsExpected file.grammar kinds rules at_end
+      → MayFollow file t tokens repairs o rules

@@ -11,6 +11,7 @@ use crate::places::tokens_before;
 use definitions::Kind;
 use docs::{Doc, Language};
 use grammar::Grammar;
+use mending::Repair;
 use std::alloc::{AllocError, Global};
 use tables::Expected;
 
@@ -24,19 +25,20 @@ fn unless_skipped(grammar: &Grammar, kind: Option<Kind>) -> Option<Kind>
     }
 }
 
-/// The rules that may follow at an offset of a document, in file order, and then the end. Refuses
-/// for memory alone.
+/// The rules that may follow at an offset of a document, as the repairs mend it, in file order,
+/// and then the end. Refuses for memory alone.
 pub fn following<'a>(
     alloc: Global,
     language: &'a Language,
     doc: &Doc,
+    repairs: &[Repair],
     offset: usize,
 ) -> Result<Expected<'a>, AllocError>
     requires current { IsCurrent language.now doc.now }
     requires within { offset ≤ length doc.now.text }
     ensures { let tokens = map plain doc.now.tokens.items in
         IfOk result (λ looks. (rules : List ℕ) × (at_end : Bool)
-        × MayFollow language.now.file doc.now.text tokens offset rules
+        × MayFollow language.now.file doc.now.text tokens repairs.now offset rules
         × (looks ≡ in_file_order rules at_end)) }
 {
     let (text, tokens) = (doc.characters(), doc.tokens());
@@ -45,5 +47,5 @@ pub fn following<'a>(
         return Ok(Expected::nothing());
     };
     let last = unless_skipped(language.grammar(), before.last);
-    expected(alloc, language.tables(), doc, before.count, last)
+    expected(alloc, language.tables(), doc, repairs, before.count, last)
 }

@@ -6,19 +6,20 @@
 //!
 //! Words: a *word* is the letters, digits and `_` right before the cursor. Nothing is offered
 //! where every letter that is typed at its start goes into a token that is there, as in a comment
-//! or a string, and nothing behind a fault.
+//! or a string. Behind a fault it is what may follow those kinds that given repairs make of the
+//! kinds before the word (`mending`); without repairs nothing is offered there.
 //!
 //! Limits: those of `docs`. `offers_at` costs the word, the token before it, and the way from the
 //! trees of the document down to that token. Behind a fault, or where the tables don't lead down
-//! that way, it costs for each token before the word or the fault the moves of the LR(1) machine,
-//! which makes no tree: together about a fifth of what it costs to open that text. In the example
-//! `language` is loaded from the grammar file in README.md.
+//! that way, it costs for each token before the word the moves of the LR(1) machine, which makes
+//! no tree: together about a fifth of what it costs to open that text. In the example `language`
+//! is loaded from the grammar file in README.md.
 //!
 //! ```
 //! let settings = guess(alloc, language.grammar()).ok()?;
 //! let texts = texts(alloc, language.grammar(), &settings).ok()?;
 //! let doc = Doc::open(alloc, language, Unit::Utf16, 1, "(1 ").ok()?;
-//! for offer in &offers_at(alloc, language, &texts, &doc, 3).ok()?.offers {
+//! for offer in &offers_at(alloc, language, &texts, &doc, &[], 3).ok()?.offers {
 //!     println!(rt; "rule {}: {}", offer.rule, offer.text).ok()?;
 //!     // rule 1: +
 //!     // rule 3: )
@@ -26,6 +27,7 @@
 //! ```
 #![tactic(auto)]
 
+mod before;
 mod descent;
 mod following;
 mod machine;

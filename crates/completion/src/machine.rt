@@ -9,11 +9,14 @@ ghost use Rattle.parser.specs.Parses.{IsParseOf};
 ghost use Rattle.tables.specs.Expected.{AreExpected};
 ghost use Rattle.tables.specs.Tables.{IsAccepted};
 ghost use Rattle.completion.specs.Machine.{AreStatesAfter, AreStatesOn};
+ghost use Rattle.completion.specs.Mended.{GoOnAs, mended_before};
 
+use crate::before::{ends_invalid, kinds_before, mended_before};
 use crate::descent::states_at;
 use definitions::Kind;
 use docs::Doc;
 use lexer::Tokens;
+use mending::Repair;
 use parser::Parse;
 use std::alloc::{AllocError, Global};
 use tables::{Expected, Move, Tables};
@@ -99,47 +102,36 @@ impl Machine {
         }
     }
 
-    /// Reads one kind more, if there is one. Whether some sentence goes on with it.
-    fn read_last(&mut self, tables: &Tables, last: Option<Kind>) -> Result<bool, AllocError>
+    /// The machine after one kind more, if there is one; none where no sentence goes on with it.
+    fn after(mut self, tables: &Tables, last: Option<Kind>) -> Result<Option<Machine>, AllocError>
         requires accepted { IsAccepted tables.now.grammar }
-        requires after { (x : List TokenKind) × AreStatesAfter tables.now x self.old.states.items }
-        ensures { (x : List TokenKind) → AreStatesAfter tables.now x self.old.states.items
-            → IfOk result (λ goes_on. MatchBool goes_on
-            (AreStatesAfter tables.now (x ++ option_to_list last) self.new.states.items)
-            (¬ IsViable tables.now.grammar (x ++ option_to_list last))) }
+        requires after { (x : List TokenKind) × AreStatesAfter tables.now x self.states.items }
+        ensures { (x : List TokenKind) → AreStatesAfter tables.now x self.states.items
+            → IfOk result (λ found. MatchOption found
+            (¬ IsViable tables.now.grammar (x ++ option_to_list last))
+            (λ m. AreStatesAfter tables.now (x ++ option_to_list last) m.states.items)) }
     {
-        match last {
-            Some(kind) => self.read(tables, kind),
-            None => Ok(true),
+        if let Some(kind) = last
+            && !self.read(tables, kind)?
+        {
+            return Ok(None);
         }
+        Ok(Some(self))
     }
 
-    /// Reads the kinds of the first `count` tokens that aren't skipped. Whether some sentence
-    /// begins with them; where none does, the machine is of no more use.
-    fn read_tokens(
-        &mut self,
-        tables: &Tables,
-        tokens: &Tokens,
-        count: usize,
-    ) -> Result<bool, AllocError>
+    /// The machine after these kinds; none where no sentence begins with them.
+    fn after_all(mut self, tables: &Tables, kinds: &[Kind]) -> Result<Option<Machine>, AllocError>
         requires accepted { IsAccepted tables.now.grammar }
-        requires after { AreStatesAfter tables.now [] self.old.states.items }
-        requires within { count ≤ length tokens.now.items }
-        ensures { let kinds = significant_kinds (take count tokens.now.items) in
-            IfOk result (λ goes_on. MatchBool goes_on
-            (AreStatesAfter tables.now kinds self.new.states.items)
-            (¬ IsViable tables.now.grammar kinds)) }
+        requires after { AreStatesAfter tables.now [] self.states.items }
+        ensures { IfOk result (λ found. MatchOption found (¬ IsViable tables.now.grammar kinds.now)
+            (λ m. AreStatesAfter tables.now kinds.now m.states.items)) }
     {
-        let mut ahead = tokens.items().iter_from(0);
-        for _ in 0..count {
-            let Some(token) = ahead.next() else {
-                unreachable!();
-            };
-            if !token.is_skipped() && !self.read(tables, token.kind())? {
-                return Ok(false);
+        for kind in kinds {
+            if !self.read(tables, *kind)? {
+                return Ok(None);
             }
         }
-        Ok(true)
+        Ok(Some(self))
     }
 }
 
@@ -186,56 +178,79 @@ fn machine_in_tree(
     }))
 }
 
-/// The machine that has read the kinds of the first `count` tokens that aren't skipped; none where
-/// no sentence begins with them.
-fn machine_after(
+/// The machine that has read the kinds of the first `count` tokens that aren't skipped and one
+/// more; none where no sentence begins with them.
+fn machine_at(
     alloc: Global,
     tables: &Tables,
-    tokens: &Tokens,
-    parse: &Parse,
-    store: &Store,
+    doc: &Doc,
     count: usize,
+    last: Option<Kind>,
 ) -> Result<Option<Machine>, AllocError>
-    requires parse { IsParseOf tables.now (significant_kinds tokens.now.items) store.now
-        parse.now }
-    requires within { count ≤ length tokens.now.items }
+    requires parse { IsParseOf tables.now (significant_kinds doc.now.tokens.items) doc.now.store
+        doc.now.parse }
+    requires within { count ≤ length doc.now.tokens.items }
     ensures accepted { IsAccepted tables.now.grammar }
-    ensures machine { let kinds = significant_kinds (take count tokens.now.items) in
+    ensures machine { let tokens = take count doc.now.tokens.items in
+        let kinds = significant_kinds tokens ++ option_to_list last in
         IfOk result (λ found. MatchOption found (¬ IsViable tables.now.grammar kinds)
         (λ m. AreStatesAfter tables.now kinds m.states.items)) }
 {
-    let mut machine = Machine::new(alloc, tables)?;
+    let (tokens, parse, store) = (doc.tokens(), doc.parse(), doc.nodes());
+    let machine = Machine::new(alloc, tables)?;
     if let Some(there) = machine_in_tree(alloc, tables, tokens, parse, store, count)? {
-        return Ok(Some(there));
+        return there.after(tables, last);
     }
-    if machine.read_tokens(tables, tokens, count)? {
-        return Ok(Some(machine));
-    }
-    Ok(None)
+    let kinds = kinds_before(alloc, tokens, count, last)?;
+    machine.after_all(tables, &kinds)
+}
+
+/// The machine that has read these kinds as repairs mend them; none where no sentence begins with
+/// what the repairs make of them.
+fn machine_mended(
+    alloc: Global,
+    tables: &Tables,
+    repairs: &[Repair],
+    kinds: Vec<Kind>,
+) -> Result<Option<Machine>, AllocError>
+    ensures { let mended = mended_before repairs.now kinds.items in
+        IfOk result (λ found. MatchOption found (¬ IsViable tables.now.grammar mended)
+        (λ m. AreStatesAfter tables.now mended m.states.items)) }
+{
+    let mended = mended_before(alloc, repairs, kinds)?;
+    Machine::new(alloc, tables)?.after_all(tables, &mended)
 }
 
 /// What may follow the first `count` tokens and one more of this kind, in file order, and then the
-/// end; nothing where no sentence begins with their kinds. Refuses for memory alone.
+/// end. Where no sentence begins with their kinds, it is what may follow these as the repairs mend
+/// them, and nothing where none begins with these either, or where the last of them begins no
+/// token. Refuses for memory alone.
 pub fn expected<'a>(
     alloc: Global,
     tables: &'a Tables,
     doc: &Doc,
+    repairs: &[Repair],
     count: usize,
     last: Option<Kind>,
 ) -> Result<Expected<'a>, AllocError>
     requires parse { IsParseOf tables.now (significant_kinds doc.now.tokens.items) doc.now.store
         doc.now.parse }
     requires within { count ≤ length doc.now.tokens.items }
-    ensures { let kinds = significant_kinds (take count doc.now.tokens.items) in
-        IfOk result (AreExpected tables.now.grammar (kinds ++ option_to_list last)) }
+    ensures { let tokens = take count doc.now.tokens.items in
+        let kinds = significant_kinds tokens ++ option_to_list last in
+        IfOk result (λ looks. (others : List TokenKind)
+        × GoOnAs tables.now.grammar repairs.now kinds others
+        × AreExpected tables.now.grammar others looks) }
 {
-    let (tokens, parse, store) = (doc.tokens(), doc.parse(), doc.nodes());
-    let found = machine_after(alloc, tables, tokens, parse, store, count)?;
-    let Some(mut machine) = found else {
-        return Ok(Expected::nothing());
-    };
-    if !machine.read_last(tables, last)? {
+    if let Some(machine) = machine_at(alloc, tables, doc, count, last)? {
+        return Ok(tables.expects(machine.state()));
+    }
+    let kinds = kinds_before(alloc, doc.tokens(), count, last)?;
+    if ends_invalid(&kinds) {
         return Ok(Expected::nothing());
     }
-    Ok(tables.expects(machine.state()))
+    match machine_mended(alloc, tables, repairs, kinds)? {
+        Some(machine) => Ok(tables.expects(machine.state())),
+        None => Ok(Expected::nothing()),
+    }
 }

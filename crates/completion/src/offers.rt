@@ -12,6 +12,7 @@ ghost use Rattle.completion.specs.Words.{goes_on, offer_of, offered_text};
 use crate::following::following;
 use crate::words::{text_between, word_start};
 use docs::{Doc, Language};
+use mending::Repair;
 use settings::RuleText;
 use std::alloc::{AllocError, Global};
 use tables::Expected;
@@ -110,24 +111,27 @@ fn offers_of(
 }
 
 /// What may follow at an offset of a document, counted in characters; past the end of the text it
-/// is that end. `texts` are those of the language's rules (`texts`). Refuses for memory alone.
+/// is that end. `texts` are those of the language's rules (`texts`), and `repairs` those that mend
+/// the document: where no sentence begins with the kinds before the word, it is what may follow
+/// those that the repairs make of them. Refuses for memory alone.
 pub fn offers_at(
     alloc: Global,
     language: &Language,
     texts: &[Option<RuleText>],
     doc: &Doc,
+    repairs: &[Repair],
     offset: usize,
 ) -> Result<Offers, AllocError>
     requires { IsCurrent language.now doc.now }
     ensures { let text = doc.now.text in IfOk result (λ found.
-        AreOffers language.now.file texts.now text offset found.start
+        AreOffers language.now.file texts.now repairs.now text offset found.start
         (map offer found.offers.items)) }
 {
     let text = doc.characters();
     let end = offset.min(text.len());
     let start = word_start(text, end);
     let word = text_between(alloc, text, start, end)?;
-    let expected = following(alloc, language, doc, start)?;
+    let expected = following(alloc, language, doc, repairs, start)?;
     let offers = offers_of(alloc, texts, &word, expected)?;
     Ok(Offers { start, offers })
 }

@@ -15,15 +15,15 @@
 //! from the grammar file in README.md, with its `settings` and the `texts` of its rules.
 //!
 //! ```
-//! let doc = Doc::open(alloc, language, Unit::Utf16, 1, "(1 2").ok()?;
+//! let doc = Doc::open(alloc, language, Unit::Utf16, 1, "(1 2)+(3 4)").ok()?;
 //! let mending = mended(alloc, language, texts, &doc).ok()??;
 //! let all = behind(alloc, language, settings, &doc, &mending).ok()?;
 //! println!(rt; "{}", all.first()?.message).ok()?;
-//! // unexpected the end of the text; expected "+" or ")"
+//! // unexpected "4"; expected ")" or "+"
 //! let about = About { alloc, language, settings, texts, doc: &doc, mending: &mending };
 //! let fixes = about.fixes(all.first()?.range).ok()?;
 //! println!(rt; "{}", fixes.first()?.title).ok()
-//! // put in ")"
+//! // leave out "4"
 //! ```
 #![tactic(auto)]
 

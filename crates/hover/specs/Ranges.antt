@@ -1,5 +1,5 @@
 -- Which ranges a position leads to.
-use Rattle.std.specs.Prelude.{◌≡◌, ℕ, ◌≤◌, ◌⊎◌, List, length}
+use Rattle.std.specs.Prelude.{◌≡◌, ℕ, ◌<◌, ◌≤◌, ◌⊎◌, List, length}
 use Rattle.definitions.specs.declared.Position.{Position}
 use Rattle.definitions.specs.declared.Range.{Range}
 use Rattle.definitions.specs.declared.Unit.{Unit as Encoding}
@@ -20,16 +20,16 @@ pub record IsRangeAt (encoding : Encoding) (t : List ℕ) (at : Position) (range
   pub touches : Touches (length t) (offset encoding t at) from to
   pub is : range ≡ range_of encoding t (from, to)
 
--- `AreBrackets encoding t at b`: the two ranges lie in the text, the second after the first, and the position in one of them or at one of
--- its ends
+-- `AreBrackets encoding t at b`: the two ranges lie in the text, each has a width, the second is after the first, and the position in one
+-- of them or at one of its ends
 pub record AreBrackets (encoding : Encoding) (t : List ℕ) (at : Position) (b : BracketPair) : Type 0 where
   pub from : ℕ
   pub inner : ℕ
   pub after : ℕ
   pub to : ℕ
-  pub begins : from ≤ inner
+  pub begins : from < inner
   pub ordered : inner ≤ after
-  pub ends : after ≤ to
+  pub ends : after < to
   pub within : to ≤ length t
   pub opening : b.opening ≡ range_of encoding t (from, inner)
   pub closing : b.closing ≡ range_of encoding t (after, to)

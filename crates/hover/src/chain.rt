@@ -1,13 +1,9 @@
 //! The nodes around a token, as a hover names them.
 
-ghost use Rattle.std.specs.Prelude.{◌<◌, length};
-ghost use Rattle.trees.specs.Cells.{AreBelow};
-
 use crate::markup::Page;
-use crate::path::{Branch, branch_below, branch_with};
+use crate::path::Forest;
 use grammar::Grammar;
 use std::alloc::{AllocError, Global};
-use trees::{Child, Children, Store};
 
 /// So many runs are named at most.
 const MOST_RUNS: usize = 12;
@@ -26,26 +22,30 @@ pub(crate) struct Chain {
 }
 
 impl Chain {
-    /// The nodes among these trees around the token at this place.
+    /// No nodes.
+    pub(crate) fn empty(alloc: Global) -> Chain {
+        Chain {
+            runs: Vec::new(alloc),
+        }
+    }
+
+    /// The nodes of these trees around the token at this place.
     pub(crate) fn around(
         alloc: Global,
         grammar: &Grammar,
-        store: &Store,
-        roots: &[Child],
+        forest: Forest<'_>,
         place: usize,
-    ) -> Result<Chain, AllocError>
-        requires { AreBelow (length store.now) roots.now }
-    {
-        let mut chain = Chain {
-            runs: Vec::new(alloc),
-        };
-        let mut next = branch_with(store, Children::of(roots), 0, place);
-        'down: for _ in 0..store.len() {
+    ) -> Result<Chain, AllocError> {
+        let mut chain = Chain::empty(alloc);
+        let mut next = forest.below(None, place);
+        'down: for _ in 0..forest.count() {
             let Some(branch) = next else {
                 return Ok(chain);
             };
-            chain.add(grammar, store.production(branch.id))?;
-            next = branch_below(store, branch, place);
+            if let Some(production) = forest.production(branch) {
+                chain.add(grammar, production)?;
+            }
+            next = forest.below(next, place);
         }
         Ok(chain)
     }

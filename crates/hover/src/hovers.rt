@@ -5,11 +5,14 @@ ghost use Rattle.docs.specs.Docs.{IsCurrent};
 ghost use Rattle.hover.specs.Ranges.{IsRangeAt};
 
 use crate::chain::Chain;
+use crate::copies::Numbers;
 use crate::markup::{Markup, Page};
-use crate::spans::{Fault, Standing, fault_at, token_at};
+use crate::path::Forest;
+use crate::spans::{Fault, Standing, fault_at, is_behind_fault, token_at};
 use definitions::{Position, Range};
 use docs::{Doc, Language};
 use grammar::{Grammar, Kind};
+use mending::Mending;
 use settings::{Settings, TOKEN_TYPES};
 use std::alloc::{AllocError, Global};
 use tables::Expected;
@@ -31,13 +34,15 @@ struct About<'a> {
     language: &'a Language,
     settings: &'a Settings,
     doc: &'a Doc,
+    mending: Option<&'a Mending>,
     markup: Markup,
 }
 
-/// What is shown at a position of a document: at its fault all that was expected there; elsewhere
-/// the token that begins there or goes on, what it is called and the nodes around it, of a text
-/// with a fault the settled ones. None on blanks and line ends, and at the end of the text. The
-/// settings are those of the language.
+/// What is shown at a position of a document: at its first fault all that was expected there;
+/// elsewhere the token that begins there or goes on, what it is called and the nodes around it.
+/// In front of a fault these are the settled ones, and behind it those of the mended copy; a
+/// token that is left out there is in none. None on blanks and line ends, and at the end of the
+/// text. The settings are those of the language, and the copy is the document's.
 ///
 /// Refuses for memory alone.
 pub fn hover(
@@ -45,6 +50,7 @@ pub fn hover(
     language: &Language,
     settings: &Settings,
     doc: &Doc,
+    mending: Option<&Mending>,
     position: Position,
     markup: Markup,
 ) -> Result<Option<HoverText>, AllocError>
@@ -57,6 +63,7 @@ pub fn hover(
         language,
         settings,
         doc,
+        mending,
         markup,
     };
     let at = doc.characters().offset(doc.unit(), position);
@@ -121,9 +128,7 @@ impl<'a> About<'a> {
     }
 
     /// The text at a token.
-    fn token(self, token: Standing) -> Result<String, AllocError>
-        requires { IsCurrent self.language.now self.doc.now }
-    {
+    fn token(self, token: Standing) -> Result<String, AllocError> {
         let text = token.span.text(self.alloc, self.doc)?;
         let mut page = Page::new(self.alloc, self.markup);
         match token.kind {
@@ -163,15 +168,25 @@ impl<'a> About<'a> {
     }
 
     /// Says the nodes around a token, from inner to outer, or that it is skipped.
-    fn say_around(self, token: Standing, page: &mut Page) -> Result<(), AllocError>
-        requires { IsCurrent self.language.now self.doc.now }
-    {
+    fn say_around(self, token: Standing, page: &mut Page) -> Result<(), AllocError> {
         if token.is_skipped {
             return page.add(", skipped: it is in no node");
         }
-        let (grammar, nodes) = (self.grammar(), self.doc.nodes());
-        let roots = self.doc.parse().stack();
-        let chain = Chain::around(self.alloc, grammar, nodes, roots, token.place)?;
-        chain.say(self.alloc, grammar, page)
+        let chain = self.chain(token.place)?;
+        chain.say(self.alloc, self.grammar(), page)
+    }
+
+    /// The nodes around the significant token of this number.
+    fn chain(self, number: usize) -> Result<Chain, AllocError> {
+        let (alloc, grammar) = (self.alloc, self.grammar());
+        match self.mending {
+            Some(mending) if is_behind_fault(self.doc, number) => {
+                match Numbers::of(alloc, mending)?.place(number) {
+                    Some(place) => Chain::around(alloc, grammar, Forest::of_copy(mending), place),
+                    None => Ok(Chain::empty(alloc)),
+                }
+            }
+            _ => Chain::around(alloc, grammar, Forest::of_document(self.doc), number),
+        }
     }
 }

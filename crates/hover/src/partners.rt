@@ -1,18 +1,18 @@
 //! The two brackets of a node.
 
 ghost use Rattle.std.specs.Prelude.{◌<◌, ◌≤◌, IfOk, IfSome, length};
-ghost use Rattle.docs.specs.Docs.{IsCurrent};
-ghost use Rattle.trees.specs.Cells.{AreBelow};
 ghost use Rattle.hover.specs.Ranges.{AreBrackets};
 
+use crate::copies::Numbers;
 use crate::pairs::Pairs;
-use crate::path::{Branch, branch_below, branch_with};
+use crate::path::{Branch, Forest};
 use crate::spans::Span;
 use definitions::{Kind, Position, Range};
 use docs::{Doc, Language};
 use lexer::MoreThan;
+use mending::Mending;
 use std::alloc::{AllocError, Global};
-use trees::{Child, Children, Store};
+use trees::Child;
 use views::span_of;
 
 /// The brackets of a node. Positions count the document's unit.
@@ -22,7 +22,7 @@ pub struct BracketPair {
     pub closing: Range,
 }
 
-/// A token among the parts of a node: its rule, and its place among the significant ones.
+/// A token among the parts of a node: its rule, and its place.
 #[derive(Clone, Copy)]
 struct Part {
     rule: usize,
@@ -38,28 +38,34 @@ struct Match {
 
 /// The two brackets of a node, where a position of a document is at one of them: parentheses,
 /// square brackets or braces that stand in one production, or two words at both ends of one. Of
-/// two tokens that touch there each may be one, the later first.
+/// two tokens that touch there each may be one, the later first. Where the text has a fault, the
+/// node may also be one of its mended copy, which is the document's; a bracket that is put in
+/// there has no width and is none.
 ///
 /// Refuses for memory alone.
 pub fn brackets(
     alloc: Global,
     language: &Language,
     doc: &Doc,
+    mending: Option<&Mending>,
     position: Position,
 ) -> Result<Option<BracketPair>, AllocError>
-    requires { IsCurrent language.now doc.now }
     ensures { IfOk result (λ found.
         IfSome found (AreBrackets doc.now.unit doc.now.text position)) }
 {
     let pairs = Pairs::of(alloc, language.grammar())?;
     let at = doc.characters().offset(doc.unit(), position);
-    let (store, roots) = (doc.nodes(), doc.parse().stack());
-    for place in touching(doc, at).into_iter().flatten() {
-        if let Some(found) = matching(alloc, store, roots, &pairs, place)? {
-            return Ok(ranges(doc, position, found));
-        }
+    let touching = touching(doc, at);
+    let mut found = settled(alloc, doc, &pairs, touching)?;
+    if let Some(mending) = mending
+        && found.is_none()
+    {
+        found = mended(alloc, mending, &pairs, touching)?;
     }
-    Ok(None)
+    match found {
+        Some(found) => Ok(ranges(doc, position, found)),
+        None => Ok(None),
+    }
 }
 
 /// The places of the significant tokens that touch an offset: of one that begins there or goes on,
@@ -84,55 +90,75 @@ fn touching(doc: &Doc, at: usize) -> [Option<usize>; 2] {
     [here, ended]
 }
 
+/// The brackets of a node of a document, of which one is one of these significant tokens.
+fn settled(
+    alloc: Global,
+    doc: &Doc,
+    pairs: &Pairs,
+    touching: [Option<usize>; 2],
+) -> Result<Option<Match>, AllocError> {
+    let forest = Forest::of_document(doc);
+    for number in touching.into_iter().flatten() {
+        let found = matching(alloc, forest, pairs, number)?;
+        if found.is_some() {
+            return Ok(found);
+        }
+    }
+    Ok(None)
+}
+
+/// The brackets of a node of a mended copy that both stand in the text, and of which one is one of
+/// these significant tokens.
+fn mended(
+    alloc: Global,
+    mending: &Mending,
+    pairs: &Pairs,
+    touching: [Option<usize>; 2],
+) -> Result<Option<Match>, AllocError> {
+    let (forest, numbers) = (Forest::of_copy(mending), Numbers::of(alloc, mending)?);
+    for number in touching.into_iter().flatten() {
+        let found = match numbers.place(number) {
+            Some(place) => matching(alloc, forest, pairs, place)?,
+            None => None,
+        };
+        if let Some(Match { opening, closing }) = found
+            && let Some(opening) = numbers.number(opening)
+            && let Some(closing) = numbers.number(closing)
+        {
+            return Ok(Some(Match { opening, closing }));
+        }
+    }
+    Ok(None)
+}
+
 /// The brackets of the innermost node around the token at this place, if it is one of them. Around
-/// a token in no node they are those among the roots.
+/// a token in no node they are those among the trees.
 fn matching(
     alloc: Global,
-    store: &Store,
-    roots: &[Child],
+    forest: Forest<'_>,
     pairs: &Pairs,
     place: usize,
-) -> Result<Option<Match>, AllocError>
-    requires { AreBelow (length store.now) roots.now }
-{
-    let parts = match innermost(store, roots, place) {
-        Some(branch) => parts_of(alloc, store, store.children(branch.id), branch.from)?,
-        None => parts_of(alloc, store, Children::of(roots), 0)?,
-    };
+) -> Result<Option<Match>, AllocError> {
+    let parts = parts_of(alloc, forest, forest.innermost(place))?;
     match_among(alloc, pairs, &parts, place)
 }
 
-/// The innermost node around the token at this place.
-fn innermost(store: &Store, roots: &[Child], place: usize) -> Option<Branch>
-    requires { AreBelow (length store.now) roots.now }
-    ensures { IfSome result (λ branch. branch.id.index < length store.now) }
-{
-    let mut inner = branch_with(store, Children::of(roots), 0, place)?;
-    'down: for _ in 0..store.len() {
-        let Some(next) = branch_below(store, inner, place) else {
-            return Some(inner);
-        };
-        inner = next;
-    }
-    Some(inner)
-}
-
-/// The tokens among these siblings, of which the first token has the place `from`.
+/// The tokens among the children of a node, or among the trees.
 fn parts_of(
     alloc: Global,
-    store: &Store,
-    children: Children<'_>,
-    from: usize,
-) -> Result<Vec<Part>, AllocError>
-    requires { AreBelow (length store.now) children }
-{
+    forest: Forest<'_>,
+    branch: Option<Branch>,
+) -> Result<Vec<Part>, AllocError> {
     let mut parts = Vec::new(alloc);
-    let mut place = from;
-    for child in children {
+    let mut place = match branch {
+        Some(branch) => branch.from,
+        None => 0,
+    };
+    for child in forest.siblings(branch) {
         if let Child::Token(Kind::Rule(rule)) = child {
             parts.push(Part { rule, place })?;
         }
-        place = place.saturating_add(store.tokens_of(child) as usize);
+        place = place.saturating_add(forest.tokens(child));
     }
     Ok(parts)
 }
@@ -183,9 +209,9 @@ fn ranges(doc: &Doc, position: Position, found: Match) -> Option<BracketPair>
     })
 }
 
-/// Where the significant token at this place stands.
+/// Where the significant token of this number stands.
 fn span_at(doc: &Doc, place: usize) -> Option<Span>
-    ensures ordered { IfSome result (λ s. s.start ≤ s.end) }
+    ensures ordered { IfSome result (λ s. s.start < s.end) }
     ensures within { IfSome result (λ s. s.end ≤ length doc.now.text) }
 {
     let tokens = doc.tokens();
@@ -195,7 +221,7 @@ fn span_at(doc: &Doc, place: usize) -> Option<Span>
     let part = span_of(tokens, place);
     let (start, end) = (part.start, part.end);
     let span = Span { start, end };
-    if start <= end && end <= doc.characters().len() {
+    if start < end && end <= doc.characters().len() {
         Some(span)
     } else {
         None

@@ -1,69 +1,102 @@
-//! The way down the trees of a document to one of its tokens.
+//! Trees, and the way down them to one of their tokens.
 
-ghost use Rattle.std.specs.Prelude.{◌<◌, IfSome, length};
-ghost use Rattle.trees.specs.Cells.{AreBelow, IsBelow};
-
+use docs::Doc;
+use mending::Mending;
 use trees::{Child, Children, NodeId, Store};
 
-/// A child, and the place of its first token among the significant ones.
+/// Trees side by side, as they stand on a parser's stack. What their store doesn't have is a tree
+/// of no tokens.
 #[derive(Clone, Copy)]
-pub(crate) struct Placed {
-    pub(crate) child: Child,
-    pub(crate) from: usize,
+pub(crate) struct Forest<'a> {
+    store: &'a Store,
+    roots: &'a [Child],
 }
 
 /// A node, and the place of its first token.
 #[derive(Clone, Copy)]
 pub(crate) struct Branch {
-    pub(crate) id: NodeId,
+    id: NodeId,
     pub(crate) from: usize,
 }
 
-/// The one of these children that has the token at this place. Their first token has the place
-/// `from`.
-pub(crate) fn child_with(
-    store: &Store,
-    children: Children<'_>,
-    from: usize,
-    place: usize,
-) -> Option<Placed>
-    requires { AreBelow (length store.now) children }
-    ensures { IfSome result (λ found. IsBelow (length store.now) found.child) }
-{
-    let mut from = from;
-    for child in children {
-        let end = from.saturating_add(store.tokens_of(child) as usize);
-        if place < end {
-            return Some(Placed { child, from });
+impl<'a> Forest<'a> {
+    /// The trees of a document, of which the significant tokens have their numbers as places.
+    pub(crate) fn of_document(doc: &'a Doc) -> Forest<'a> {
+        Forest {
+            store: doc.nodes(),
+            roots: doc.parse().stack(),
         }
-        from = end;
     }
-    None
-}
 
-/// The one of these children that has the token at this place, if it is a node.
-pub(crate) fn branch_with(
-    store: &Store,
-    children: Children<'_>,
-    from: usize,
-    place: usize,
-) -> Option<Branch>
-    requires { AreBelow (length store.now) children }
-    ensures { IfSome result (λ found. found.id.index < length store.now) }
-{
-    match child_with(store, children, from, place)? {
-        Placed {
-            child: Child::Node(id),
-            from,
-        } => Some(Branch { id, from }),
-        _ => None,
+    /// The trees of a mended copy, of which the kinds have their numbers in it as places.
+    pub(crate) fn of_copy(mending: &'a Mending) -> Forest<'a> {
+        Forest {
+            store: mending.nodes(),
+            roots: mending.parse().stack(),
+        }
     }
-}
 
-/// The one of the children of a node that has the token at this place, if it is a node.
-pub(crate) fn branch_below(store: &Store, branch: Branch, place: usize) -> Option<Branch>
-    requires { branch.id.index < length store.now }
-    ensures { IfSome result (λ found. found.id.index < length store.now) }
-{
-    branch_with(store, store.children(branch.id), branch.from, place)
+    /// How many nodes there are, or more.
+    pub(crate) fn count(self) -> usize {
+        self.store.len()
+    }
+
+    /// How many tokens a tree has.
+    pub(crate) fn tokens(self, child: Child) -> usize {
+        match child {
+            Child::Token(_) => 1,
+            Child::Node(id) if id.index < self.store.len() => self.store.tokens(id) as usize,
+            Child::Node(_) => 0,
+        }
+    }
+
+    /// The production of a node.
+    pub(crate) fn production(self, branch: Branch) -> Option<usize> {
+        if branch.id.index < self.store.len() {
+            Some(self.store.production(branch.id))
+        } else {
+            None
+        }
+    }
+
+    /// The children of a node; the trees themselves where none is given.
+    pub(crate) fn siblings(self, branch: Option<Branch>) -> Children<'a> {
+        match branch {
+            Some(branch) if branch.id.index < self.store.len() => self.store.children(branch.id),
+            Some(_) => Children::of(&[]),
+            None => Children::of(self.roots),
+        }
+    }
+
+    /// The node that has the token at this place, among the children of a node or the trees
+    /// themselves; none where the token is itself one of these.
+    pub(crate) fn below(self, branch: Option<Branch>, place: usize) -> Option<Branch> {
+        let mut from = match branch {
+            Some(branch) => branch.from,
+            None => 0,
+        };
+        for child in self.siblings(branch) {
+            let end = from.saturating_add(self.tokens(child));
+            if place < end {
+                return match child {
+                    Child::Node(id) => Some(Branch { id, from }),
+                    Child::Token(_) => None,
+                };
+            }
+            from = end;
+        }
+        None
+    }
+
+    /// The innermost node that has the token at this place.
+    pub(crate) fn innermost(self, place: usize) -> Option<Branch> {
+        let mut inner = None;
+        'down: for _ in 0..self.store.len() {
+            let Some(next) = self.below(inner, place) else {
+                return inner;
+            };
+            inner = Some(next);
+        }
+        inner
+    }
 }

@@ -108,6 +108,12 @@ pub(crate) fn fault_at(doc: &Doc, at: usize) -> Option<Fault>
     }
 }
 
+/// Whether the significant token of this number stands at the first fault of a document or behind
+/// it.
+pub(crate) fn is_behind_fault(doc: &Doc, number: usize) -> bool {
+    matches!(doc.parse().verdict(), Verdict::FaultAt(fault) if fault <= number)
+}
+
 /// The fault of a document.
 fn fault_of(doc: &Doc) -> Option<Fault> {
     match doc.parse().verdict() {

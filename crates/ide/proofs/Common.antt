@@ -1,5 +1,5 @@
 -- What the proofs of this crate cite of definitions, of types and of other crates, passed on from one place. Declares nothing.
-pub use Rattle.std.proofs.Common.{◌++◌, ◌+◌, ◌<◌, ◌⊎◌, ◌∙◌, ◌∷◌, ◌≡◌, Bool, Err, IsSome, List, MatchOption, None, Ok, Option, Result, Some, [], ap, append-nil, append_assoc, arith, drop, get_or, inl, inr, length, map, option_map, refl, rules, subst, sym, take, ℕ}
+pub use Rattle.std.proofs.Common.{◌++◌, ◌+◌, ◌<◌, ◌⊎◌, ◌∙◌, ◌∷◌, ◌≡◌, Err, IsSome, List, MatchOption, None, Ok, Option, Result, Some, [], ap, append-nil, append_assoc, arith, drop, get_or, inl, inr, length, map, option_map, refl, rules, subst, sym, take, ℕ}
 pub use Rattle.std.specs.Io.KnownBytes.{Appends, Consumes, IsAtEnd, Keeps}
 pub use Rattle.std.specs.Vec.Iter.{into_iter_items}
 pub use Rattle.std.proofs.lemmas.Grind.{flat_map-append}
@@ -18,16 +18,19 @@ pub use Rattle.server.specs.Loop.{EndsAt, IsCutShort, run_fault}
 pub use Rattle.sessions.specs.Runs.{Run}
 pub use Rattle.sessions.specs.Sessions.{AppendsPrefix, Ends, IsWritten}
 pub use Rattle.sessions.specs.Steps.{State, Step}
-pub use Rattle.ide.specs.States.{IdeState, first_of}
+pub use Rattle.own_replies.specs.States.{IdeState, first_of}
 pub use Rattle.std.specs.List.{Any}
 pub use Rattle.replies.specs.Ids.{Ident}
-pub use Rattle.ide.specs.Asked.{asked_in, cancelled_by}
+pub use Rattle.questions.specs.Asked.{asked_in}
+pub use Rattle.questions.specs.Cancels.{cancelled_by, cancels, later_view, question_id}
+pub use Rattle.questions.specs.Own.{own_in, own_of}
 pub use Rattle.editor_replies.specs.Sent.{Message, core_answers, core_part, message_view}
 pub use Rattle.editor_replies.specs.Sending.{bytes_of, message_data}
-pub use Rattle.ide.specs.Steps.{AnswersItself, IsReply, StepOnContent, StepsAsShown, own_in, own_of, question_id}
-pub use Rattle.ide.specs.Runs.{Event, IsLeftOff, LeavesOut, Serves, cancels, comes, contents_of, looks}
+pub use Rattle.own_replies.specs.Replies.{IsReply}
+pub use Rattle.ide.specs.Steps.{AnswersItself, StepOnContent, StepsAsShown}
+pub use Rattle.ide.specs.Runs.{Event, IsLeftOff, LeavesOut, Serves, comes, contents_of, looks}
 pub use Rattle.ide.specs.Sessions.{IsTaken, Session}
 pub use Rattle.ide.specs.Loop.{HasServed, Served, ServedInPart}
-pub use Rattle.ide.specs.Shown.{AreShown, IsShown, ShownData}
-pub use Rattle.ide.specs.Servers.{later_view, shown_data, state_of}
+pub use Rattle.shown.specs.Shown.{AreShown, ShownData}
+pub use Rattle.ide.specs.Servers.{state_of}
 pub use Rattle.editor_replies.specs.declared.sent.Sent.{Sent}

@@ -4,8 +4,7 @@ use Rattle.std.specs.Prelude.{option_map}
 use Rattle.frames.specs.declared.decoder.Frame.{Frame}
 use Rattle.replies.specs.Ids.{id_view}
 use Rattle.replies.specs.declared.id.Id.{Id}
-use Rattle.ide.specs.Asked.{cancelled_by}
-use Rattle.ide.specs.Servers.{later_view}
+use Rattle.questions.specs.Cancels.{cancelled_by, later_view}
 use Rattle.ide.proofs.Runs.{served_then}
 use Rattle.ide.proofs.CutSessions.{part_on, part_then}
 

@@ -1,12 +1,8 @@
 mod Common
-mod ShownAnswers
 mod Runs
-mod Asking
-mod Refusals
 mod Own
-mod OfferTexts
 mod CutSessions
-mod Reopening
+mod Looks
 mod InTurn
 mod Loop
 mod TheCores

@@ -1,16 +1,13 @@
 -- In each run of the editor's server there is one of the core.
 use Rattle.ide.proofs.Common.{◌≡◌, ℕ, List, [], ◌∷◌, ◌++◌, map, refl, ap, sym, subst, ◌∙◌, inl, inr, Option, Some, None, MatchOption, IsSome, ◌⊎◌, flat_map-append, Ident, Message, core_answers, core_part, Run, State, Step, received_in, asked_in, own_in, own_of, question_id, AnswersItself, IsReply, StepOnContent, StepsAsShown, IsLeftOff, LeavesOut, Serves, cancels, comes, IdeState}
 use Rattle.ide.proofs.Runs.{all_come}
-use Rattle.ide.proofs.ShownAnswers.{the_answers}
-use Rattle.std.specs.FinMap.{get}
-use Rattle.readings.specs.Texts.{OpenDocument}
+use Rattle.shown.proofs.ShownAnswers.{the_answers}
+use Rattle.own_replies.proofs.OwnAlone.{is_own}
 use Rattle.rpc.specs.Messages.{Received, refused as refused_as, unknown}
 use Rattle.rpc.specs.Unit.{Unit as Encoding}
-use Rattle.sessions.specs.Documents.{DocumentState, is_lost, is_open}
 use Rattle.sessions.specs.declared.phase.Phase.{Phase}
 use Rattle.sessions.specs.declared.phase.Phase.TheVariants.{New, Ready, Down}
-use Rattle.ide.specs.Asked.{Asked, Question, about, misfit, its_brackets, its_changes, its_colours, its_fixes, its_hover, its_lines, its_offers, its_outline}
-use Rattle.ide.specs.Steps.{AreChanges, IsReplyAbout, IsReplyOf, since}
+use Rattle.questions.specs.Asked.{Asked}
 use Rattle.ide.specs.Runs.{EachRunIsTheCores}
 
 -- a request that is answered here asks something
@@ -18,35 +15,6 @@ own_asks : (phase : Phase) (received : Received) (asked : Option Asked) (own : I
 own_asks (Ready unit) (refused_as (unknown id)) (Some a) own e = search
 own_asks (Ready unit) (refused_as (unknown id)) None own e = absurd (let f : ⊥ = cc in f)
 own_asks phase received asked own e = absurd (let f : ⊥ = cc in f)
-
--- what is true of a reply to a request that is answered here: nothing of it is the core's, and the core stays as it was
-abbrev IsOwn : IdeState → Message → IdeState → Type 0
-IsOwn old message new = (core_part message ≡ []) × (new.core ≡ old.core)
-
-of_changes : (id : Ident) (name : List ℕ) (before : Option (List ℕ)) (numbers : List ℕ) (message : Message) → AreChanges id name before numbers message → core_part message ≡ []
-of_changes id name None numbers message r = ap core_part r
-of_changes id name (Some before) numbers message r = ap core_part r.2
-
-of_open : (old : IdeState) (id : Ident) (uri : List ℕ) (d : OpenDocument) (question : Question) (message : Message) (new : IdeState)
-    → IsReplyOf old id uri d question message new → IsOwn old message new
-of_open old id uri d its_colours message new r = (ap core_part r.2, ap (λ (s : IdeState). s.core) r.3)
-of_open old id uri d (its_changes previous) message new r = (of_changes id _ (since old.told uri previous) r.0 message r.2, ap (λ (s : IdeState). s.core) r.3)
-of_open old id uri d (its_lines first end) message new r = (ap core_part r.2, ap (λ (s : IdeState). s.core) r.3)
-of_open old id uri d (its_offers place) message new r = (ap core_part r.0.5, ap (λ (s : IdeState). s.core) r.1)
-of_open old id uri d its_outline message new r = (ap core_part r.0.1, ap (λ (s : IdeState). s.core) r.1)
-of_open old id uri d (its_hover place) message new r = (ap core_part r.0.1, ap (λ (s : IdeState). s.core) r.1)
-of_open old id uri d (its_brackets place) message new r = (ap core_part r.0.1, ap (λ (s : IdeState). s.core) r.1)
-of_open old id uri d (its_fixes range) message new r = (ap core_part r.0.1, ap (λ (s : IdeState). s.core) r.1)
-
-of_document : (old : IdeState) (id : Ident) (uri : List ℕ) (document : Option DocumentState) (question : Question) (message : Message) (new : IdeState)
-    → IsReplyAbout old id uri document question message new → IsOwn old message new
-of_document old id uri None question message new r = (ap core_part r.0, ap (λ (s : IdeState). s.core) r.1)
-of_document old id uri (Some (is_lost loss)) question message new r = (ap core_part r.0, ap (λ (s : IdeState). s.core) r.1)
-of_document old id uri (Some (is_open d)) question message new r = of_open old id uri d question message new r
-
-is_own : (old : IdeState) (id : Ident) (asked : Asked) (message : Message) (new : IdeState) → IsReply old id asked message new → IsOwn old message new
-is_own old id misfit message new r = (ap core_part r.0, ap (λ (s : IdeState). s.core) r.1)
-is_own old id (about uri question) message new r = of_document old id uri (get old.core.documents uri) question message new r
 
 -- a question that is cancelled came in the ready phase
 in_ready : (phase : Phase) (received : Received) (id : Ident) → question_id phase received ≡ Some id

@@ -1,6 +1,3 @@
-pub mod Asked
-pub mod Shown
-pub mod States
 pub mod Steps
 pub mod Written
 pub mod Runs

@@ -7,8 +7,9 @@ use Rattle.sessions.specs.Sessions.{AppendsPrefix}
 use Rattle.server.specs.Loop.{IsCutShort}
 use Rattle.editor_replies.specs.Sent.{Message}
 use Rattle.editor_replies.specs.Sending.{bytes_of}
-use Rattle.ide.specs.Runs.{Event, Serves, cancels, contents_of}
-use Rattle.ide.specs.States.{IdeState}
+use Rattle.questions.specs.Cancels.{cancels}
+use Rattle.ide.specs.Runs.{Event, Serves, contents_of}
+use Rattle.own_replies.specs.States.{IdeState}
 
 -- all messages on the contents are written
 pub record Served (old new : Option (List ℕ)) (before : IdeState) (contents : List (List ℕ)) (later : List (Option Ident)) (stop : Option ℕ)

@@ -5,10 +5,11 @@ use Rattle.rpc.specs.Reading.{received_in}
 use Rattle.rpc.specs.Unit.{Unit as Encoding}
 use Rattle.sessions.specs.Runs.{Run}
 use Rattle.sessions.specs.declared.phase.Phase.TheVariants.{Ready}
-use Rattle.ide.specs.Asked.{asked_in, cancelled_by}
+use Rattle.questions.specs.Asked.{asked_in}
+use Rattle.questions.specs.Cancels.{IsCancelled, cancels, question_id}
 use Rattle.editor_replies.specs.Sent.{Message, core_answers}
-use Rattle.ide.specs.Steps.{IsCancelled, StepOnContent, question_id}
-use Rattle.ide.specs.States.{IdeState}
+use Rattle.ide.specs.Steps.{StepOnContent}
+use Rattle.own_replies.specs.States.{IdeState}
 use Rattle.ide.specs.Written.{AfterLook, Language}
 
 -- what happens to the editor's server: the content of a frame comes; or a look at the files of its language finds that they were written,
@@ -22,10 +23,6 @@ abbrev pub contents_of : List Event → List (List ℕ)
 contents_of [] = []
 contents_of (comes content ∷ events) = content ∷ contents_of events
 contents_of (looks written ∷ events) = contents_of events
-
--- `cancels contents`: for each content the id of the request that it cancels, if it cancels one
-abbrev pub cancels : List (List ℕ) → List (Option Ident)
-cancels contents = map cancelled_by contents
 
 -- `Serves old events later messages stop new`: steps on events in turn, up to the first that stops the server, where more contents were
 -- read that cancel the requests in `later`

@@ -8,9 +8,10 @@ use Rattle.sessions.specs.declared.fault.RunFault.{RunFault}
 use Rattle.sessions.specs.declared.fault.RunFault.TheVariants.{Write, Memory}
 use Rattle.editor_replies.specs.Sent.{Message}
 use Rattle.editor_replies.specs.Sending.{bytes_of}
-use Rattle.ide.specs.Runs.{Event, Serves, cancels, contents_of}
-use Rattle.ide.specs.Shown.{ShownData}
-use Rattle.ide.specs.States.{IdeState, first_of}
+use Rattle.questions.specs.Cancels.{cancels}
+use Rattle.ide.specs.Runs.{Event, Serves, contents_of}
+use Rattle.shown.specs.Shown.{ShownData}
+use Rattle.own_replies.specs.States.{IdeState, first_of}
 
 -- `IsTaken result left`: whether contents may be left that are not answered: only where a write failed or memory was refused
 abbrev pub IsTaken : Result ℕ RunFault → List (List ℕ) → Type 0

@@ -30,21 +30,11 @@
 //! ```
 #![tactic(auto)]
 
-mod asked;
-mod cancels;
-mod client;
-mod content;
-mod faulty;
 mod ide;
 pub mod laws;
 mod looked;
-mod losses;
-mod offered;
-mod reopened;
 mod sending;
-mod shown;
 mod stream;
-mod told;
 
 pub use self::ide::Ide;
 pub use editor_replies::{Fault, Sent, Value, to_bytes};

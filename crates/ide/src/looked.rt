@@ -1,8 +1,8 @@
 //! What a look at the files of a language finds.
 
-use crate::shown::Shown;
 use docs::Language;
 use editor_replies::Value;
+use shown::Shown;
 use std::alloc::{AllocError, Global};
 
 /// A notification that the program sends of its own accord.

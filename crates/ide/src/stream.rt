@@ -5,24 +5,26 @@ ghost use Rattle.std.specs.Io.KnownBytes.{Appends, Keeps};
 ghost use Rattle.frames.specs.Contents.{contents};
 ghost use Rattle.sessions.specs.Sessions.{AppendsPrefix};
 ghost use Rattle.server.specs.Loop.{EndsAt, IsCutShort, run_fault};
+ghost use Rattle.questions.specs.Cancels.{later_view};
 ghost use Rattle.ide.specs.Loop.{HasServed, Served, ServedInPart};
 ghost use Rattle.ide.specs.Runs.{EachRunIsTheCores};
 ghost use Rattle.editor_replies.specs.Sending.{bytes_of};
 ghost use Rattle.editor_replies.specs.Sent.{message_view};
-ghost use Rattle.ide.specs.Servers.{later_view, shown_data, state_of};
+ghost use Rattle.shown.specs.Shown.{shown_data};
+ghost use Rattle.ide.specs.Servers.{state_of};
 ghost use Rattle.ide.specs.Sessions.{Session};
-ghost use Rattle.ide.specs.States.{first_of};
+ghost use Rattle.own_replies.specs.States.{first_of};
 
-use crate::cancels::cancels;
 use crate::ide::Ide;
 use crate::laws::each_run_is_the_cores;
 use crate::looked::Watch;
-use crate::shown::Shown;
 use docs::Language;
 use editor_replies::{Sent, to_bytes};
 use frames::{Decoder, Frame, FrameFault, Input, Output, write_frame};
+use questions::cancels;
 use rpc::Id;
 use server::RunFault;
+use shown::Shown;
 use std::alloc::Global;
 
 /// How many bytes are read at once: as many as a pipe of Linux holds.

@@ -139,7 +139,7 @@ fn check(
 ) {
     let doc = document(rt, alloc, language, row.0);
     let at = place(row.1);
-    match hover(alloc, language, settings, &doc, at, markup).expect(rt, "memory") {
+    match hover(alloc, language, settings, &doc, None, at, markup).expect(rt, "memory") {
         Some(shown) => check_shown(rt, &shown, row),
         None => assert!(rt; row.2.is_empty(), "{}", row.2),
     }
@@ -219,7 +219,7 @@ fn numbers(range: Range) -> [u32; 4] {
 fn check_pair(rt: &impl Abort, alloc: Global, language: &Language, row: &Pair) {
     let (text, character, wanted) = *row;
     let doc: Doc = document(rt, alloc, language, text);
-    let found = brackets(alloc, language, &doc, place(character)).expect(rt, "memory");
+    let found = brackets(alloc, language, &doc, None, place(character)).expect(rt, "memory");
     let ranges = match found {
         Some(pair) => Some((numbers(pair.opening), numbers(pair.closing))),
         None => None,

@@ -156,7 +156,7 @@ fn check(
     let text = format!(in alloc; "{before}{behind}").expect(rt, "memory");
     let doc = Doc::open(alloc, language, Unit::Utf16, 1, &text).expect(rt, "a document");
     let offset = before.chars().count();
-    let found = offers_at(alloc, language, texts, &doc, offset).expect(rt, "offers");
+    let found = offers_at(alloc, language, texts, &doc, &[], offset).expect(rt, "offers");
     let offered = joined(rt, alloc, &found);
     assert!(rt; offered.as_str() == wanted, "{marked}: {offered}");
     assert!(rt; found.start == start, "{marked}: {}", found.start);
@@ -201,7 +201,7 @@ fn an_offset_past_the_end_is_the_end(rt: HostRuntime) {
     let settings = read(alloc, language.grammar(), "").expect(&rt, "settings");
     let texts = texts(alloc, language.grammar(), &settings).expect(&rt, "texts");
     let doc = Doc::open(alloc, &language, Unit::Utf8, 1, "1 + ").expect(&rt, "a document");
-    let found = offers_at(alloc, &language, &texts, &doc, usize::MAX).expect(&rt, "offers");
+    let found = offers_at(alloc, &language, &texts, &doc, &[], usize::MAX).expect(&rt, "offers");
     assert!(rt; found.start == 4);
     assert!(rt; joined(&rt, alloc, &found).as_str() == "(");
 }
@@ -215,10 +215,10 @@ fn long_words_and_comments(rt: HostRuntime) {
     let texts = texts(alloc, language.grammar(), &settings).expect(&rt, "texts");
     let long = format!(in alloc; "; {:a>300}", "").expect(&rt, "memory");
     let doc = Doc::open(alloc, &language, Unit::Utf8, 1, &long).expect(&rt, "a document");
-    let found = offers_at(alloc, &language, &texts, &doc, 302).expect(&rt, "offers");
+    let found = offers_at(alloc, &language, &texts, &doc, &[], 302).expect(&rt, "offers");
     assert!(rt; found.start == 2);
     let comment = format!(in alloc; "//{:->300}", "").expect(&rt, "memory");
     let doc = Doc::open(alloc, &language, Unit::Utf8, 1, &comment).expect(&rt, "a document");
-    let found = offers_at(alloc, &language, &texts, &doc, 302).expect(&rt, "offers");
+    let found = offers_at(alloc, &language, &texts, &doc, &[], 302).expect(&rt, "offers");
     assert!(rt; found.start == 302 && found.offers.is_empty());
 }

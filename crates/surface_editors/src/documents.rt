@@ -61,6 +61,7 @@ pub fn hover(
     language: &Language,
     settings: &Settings,
     doc: &Doc,
+    mending: Option<&Mending>,
     position: Position,
     markup: Markup,
 ) -> Result<Option<HoverText>, AllocError>
@@ -68,7 +69,7 @@ pub fn hover(
     ensures { IfOk result (λ found. IfSome found
         (λ hover. IsRangeAt doc.now.unit doc.now.text position hover.range)) }
 {
-    hover::hover(alloc, language, settings, doc, position, markup)
+    hover::hover(alloc, language, settings, doc, mending, position, markup)
 }
 
 /// `BracketPair`.
@@ -82,11 +83,11 @@ pub fn brackets(
     alloc: Global,
     language: &Language,
     doc: &Doc,
+    mending: Option<&Mending>,
     position: Position,
 ) -> Result<Option<BracketPair>, AllocError>
-    requires { IsCurrent language.now doc.now }
     ensures { IfOk result (λ found.
         IfSome found (AreBrackets doc.now.unit doc.now.text position)) }
 {
-    hover::brackets(alloc, language, doc, position)
+    hover::brackets(alloc, language, doc, mending, position)
 }

@@ -8,6 +8,7 @@ ghost use Rattle.completion.specs.Texts.{AreTexts};
 use completion::{Offer, Offers, RuleText};
 use docs::{Doc, Language};
 use grammar::Grammar;
+use mending::Repair;
 use settings::Settings;
 use std::alloc::{AllocError, Global};
 
@@ -40,12 +41,13 @@ pub fn offers_at(
     language: &Language,
     texts: &[Option<RuleText>],
     doc: &Doc,
+    repairs: &[Repair],
     offset: usize,
 ) -> Result<Offers, AllocError>
     requires { IsCurrent language.now doc.now }
     ensures { let text = doc.now.text in IfOk result (λ found.
-        AreOffers language.now.file texts.now text offset found.start
+        AreOffers language.now.file texts.now repairs.now text offset found.start
         (map offer found.offers.items)) }
 {
-    completion::offers_at(alloc, language, texts, doc, offset)
+    completion::offers_at(alloc, language, texts, doc, repairs, offset)
 }

@@ -1,49 +1,58 @@
-use Rattle.completion.proofs.Common.{◌++◌, ◌≡◌, [], List, ap, append-nil, option_to_list, subst, sym, take, top_stands, AreExpected, AreStatesAfter, IsStateOf, IsViable, Kind, significant_kinds, Token}
-use Rattle.completion.proofs.Machines.{none_follow}
+use Rattle.completion.proofs.Common.{◌++◌, ◌≡◌, ◌∙◌, ap, option_to_list, subst, sym, take, top_stands, AreExpected, AreStatesAfter, IsStateOf, IsViable, significant_kinds}
+use Rattle.completion.proofs.Goings.{mended, nothing_expected, stopped, unmended}
 use Rattle.completion.proofs.Matches.{of_false, of_none, of_some, of_true}
-use Rattle.parser.specs.Parses.{IsParseOf, Stop}
-use Rattle.trees.specs.Cells.{Cell}
+use Rattle.completion.specs.Mended.{EndsInvalid, mended_before}
 use Rattle.completion.specs.declared.machine.Machine.{Machine}
-use Rattle.completion.proofs.machine.expected.Goals.{After-nodes-store}
+use Rattle.completion.proofs.machine.expected.Goals.{In_ok-kinds}
 use Rattle.completion.proofs.machine.expected.Goals as goal
 
--- the kinds before the offset, by the tokens that were lent
-same_kinds : (c : After-nodes-store) → significant_kinds (take c.args.count c.tokens-tokens.result.now.items) ≡ significant_kinds (take c.args.count c.args.doc.now.tokens.items)
-same_kinds c = ap (λ l. significant_kinds (take c.args.count l.items)) c.tokens-tokens.ensures.is
-
-pub machine_after-requires-clause-parse : goal.machine_after-requires-clause-parse
-machine_after-requires-clause-parse c =
+pub returns-in-Some : goal.returns-in-Some
+returns-in-Some c =
     let t = c.args.tables.now in
-    let items : c.tokens-tokens.result.now.items ≡ c.args.doc.now.tokens.items = ap (λ l. l.items) c.tokens-tokens.ensures.is in
-    subst (λ (xs : List Token). IsParseOf t (significant_kinds xs) c.nodes-store.result.now c.parse-parse.result.now) (sym items)
-    (subst (λ (cells : List Cell). IsParseOf t (significant_kinds c.args.doc.now.tokens.items) cells c.parse-parse.result.now) (sym c.nodes-store.ensures)
-    (subst (λ (p : Stop). IsParseOf t (significant_kinds c.args.doc.now.tokens.items) c.args.doc.now.store p) (sym c.parse-parse.ensures.is) c.requires.parse))
+    let kinds = significant_kinds (take c.args.count c.args.doc.now.tokens.items) ++ option_to_list c.args.last in
+    let after = of_some (¬ IsViable t.grammar kinds) (λ (m : Machine). AreStatesAfter t kinds m.states.items) c.in_ok-machine.field-0 c.in-Some.machine c.in-Some.is c.in_ok-machine.ensures.machine in
+    let top = subst (IsStateOf t after.has.symbols) (sym c.state.ensures) (top_stands t after.stack c.in-Some.machine.states.items after.has) in
+    unmended t c.args.repairs.now kinds c.expects.result c.in-Some.machine.states.items c.in_ok-machine.ensures.accepted after
+    (c.expects.ensures kinds after.stack after.has.symbols top after.after after.has.roots)
 
-pub returns-in_default : goal.returns-in_default
-returns-in_default c =
-    let t = c.args.tables.now in
-    let x = significant_kinds (take c.args.count c.tokens-tokens.result.now.items) in
-    let not = of_none (¬ IsViable t.grammar x) (λ (m : Machine). AreStatesAfter t x m.states.items) c.in_ok-found.found c.in_default.is c.in_ok-found.ensures.machine in
-    subst (λ (ks : List Kind). AreExpected t.grammar (ks ++ option_to_list c.args.last) c.nothing.result) (same_kinds (goal.at.returns-in_default c).After-nodes-store)
-    (subst (AreExpected t.grammar (x ++ option_to_list c.args.last)) (sym c.nothing.ensures) (none_follow t.grammar x (option_to_list c.args.last) not))
+-- the kinds before the place, as they are read
+kinds_read : (c : In_ok-kinds) → c.in_ok-kinds.kinds.items ≡ significant_kinds (take c.args.count c.args.doc.now.tokens.items) ++ option_to_list c.args.last
+kinds_read c = c.in_ok-kinds.ensures ∙ ap (λ l. significant_kinds (take c.args.count l.items) ++ option_to_list c.args.last) c.tokens.ensures.is
 
-pub returns-then-not-branch : goal.returns-then-not-branch
-returns-then-not-branch c =
+-- no sentence begins with them
+none_begins : (c : In_ok-kinds) → ¬ IsViable c.args.tables.now.grammar (significant_kinds (take c.args.count c.args.doc.now.tokens.items) ++ option_to_list c.args.last)
+none_begins c =
     let t = c.args.tables.now in
-    let x = significant_kinds (take c.args.count c.tokens-tokens.result.now.items) in
-    let all = x ++ option_to_list c.args.last in
-    let after = of_some (¬ IsViable t.grammar x) (λ (m : Machine). AreStatesAfter t x m.states.items) c.in_ok-found.found c.in-Some.machine c.in-Some.is c.in_ok-found.ensures.machine in
-    let not = of_false (AreStatesAfter t all c.read_last.new.self.states.items) (¬ IsViable t.grammar all) c.in_ok-read_last.field-0 c.if-not-branch.true (c.in_ok-read_last.ensures x after) in
-    subst (λ (ks : List Kind). AreExpected t.grammar (ks ++ option_to_list c.args.last) c.nothing-then-not-branch.result) (same_kinds (goal.at.returns-then-not-branch c).After-nodes-store)
-    (subst (AreExpected t.grammar all) (sym c.nothing-then-not-branch.ensures) (subst (λ l. AreExpected t.grammar l []) (append-nil all) (none_follow t.grammar all [] not)))
+    let kinds = significant_kinds (take c.args.count c.args.doc.now.tokens.items) ++ option_to_list c.args.last in
+    of_none (¬ IsViable t.grammar kinds) (λ (m : Machine). AreStatesAfter t kinds m.states.items) c.in_ok-machine.field-0 c.in_default.is c.in_ok-machine.ensures.machine
 
-pub returns : goal.returns
-returns c =
+pub returns-then-ends_invalid : goal.returns-then-ends_invalid
+returns-then-ends_invalid c =
+    let read = (goal.at.returns-then-ends_invalid c).In_ok-kinds in
+    let ends = of_true (EndsInvalid c.deref.result.now) (¬ EndsInvalid c.deref.result.now) c.ends_invalid.result c.if-ends_invalid.true c.ends_invalid.ensures in
+    stopped c.args.tables.now.grammar c.args.repairs.now _ c.nothing.result (none_begins read) (subst EndsInvalid (c.deref.ensures.value ∙ kinds_read read) ends) c.nothing.ensures
+
+pub returns-in-Some-2 : goal.returns-in-Some-2
+returns-in-Some-2 c =
     let t = c.args.tables.now in
-    let x = significant_kinds (take c.args.count c.tokens-tokens.result.now.items) in
-    let all = x ++ option_to_list c.args.last in
-    let after = of_some (¬ IsViable t.grammar x) (λ (m : Machine). AreStatesAfter t x m.states.items) c.in_ok-found.found c.in-Some.machine c.in-Some.is c.in_ok-found.ensures.machine in
-    let done = of_true (AreStatesAfter t all c.read_last.new.self.states.items) (¬ IsViable t.grammar all) c.in_ok-read_last.field-0 c.if-not-branch.false (c.in_ok-read_last.ensures x after) in
-    let top = subst (IsStateOf t done.has.symbols) (sym c.state.ensures) (top_stands t done.stack c.read_last.new.self.states.items done.has) in
-    subst (λ (ks : List Kind). AreExpected t.grammar (ks ++ option_to_list c.args.last) c.expects.result) (same_kinds (goal.at.returns c).After-nodes-store)
-    (c.expects.ensures all done.stack done.has.symbols top done.after done.has.roots)
+    let repairs = c.args.repairs.now in
+    let read = (goal.at.returns-in-Some-2 c).In_ok-kinds in
+    let given = c.in_ok-kinds.kinds.items in
+    let ends = of_false (EndsInvalid c.deref.result.now) (¬ EndsInvalid c.deref.result.now) c.ends_invalid.result c.if-ends_invalid.false c.ends_invalid.ensures in
+    let x = mended_before repairs given in
+    let after = of_some (¬ IsViable t.grammar x) (λ (m : Machine). AreStatesAfter t x m.states.items) c.in_ok-machine-2.field-0 c.in-Some-2.machine c.in-Some-2.is c.in_ok-machine-2.ensures in
+    let top = subst (IsStateOf t after.has.symbols) (sym c.state-in-Some-2.ensures) (top_stands t after.stack c.in-Some-2.machine.states.items after.has) in
+    let there : AreExpected t.grammar x c.expects-in-Some-2.result = c.expects-in-Some-2.ensures x after.stack after.has.symbols top after.after after.has.roots in
+    mended t.grammar repairs _ c.expects-in-Some-2.result (none_begins read) (subst (λ l. ¬ EndsInvalid l) (c.deref.ensures.value ∙ kinds_read read) ends)
+    (subst (λ l. AreExpected t.grammar (mended_before repairs l) c.expects-in-Some-2.result) (kinds_read read) there)
+
+pub returns-in-None : goal.returns-in-None
+returns-in-None c =
+    let t = c.args.tables.now in
+    let repairs = c.args.repairs.now in
+    let read = (goal.at.returns-in-None c).In_ok-kinds in
+    let ends = of_false (EndsInvalid c.deref.result.now) (¬ EndsInvalid c.deref.result.now) c.ends_invalid.result c.if-ends_invalid.false c.ends_invalid.ensures in
+    let x = mended_before repairs c.in_ok-kinds.kinds.items in
+    let not = of_none (¬ IsViable t.grammar x) (λ (m : Machine). AreStatesAfter t x m.states.items) c.in_ok-machine-2.field-0 c.in-None.is c.in_ok-machine-2.ensures in
+    mended t.grammar repairs _ c.nothing-in-None.result (none_begins read) (subst (λ l. ¬ EndsInvalid l) (c.deref.ensures.value ∙ kinds_read read) ends)
+    (subst (λ l. AreExpected t.grammar (mended_before repairs l) c.nothing-in-None.result) (kinds_read read) (nothing_expected t.grammar x c.nothing-in-None.result not c.nothing-in-None.ensures))

@@ -2,7 +2,7 @@ use Rattle.ide.proofs.Common.{map, message_view, state_of, ap, option_map, Optio
 use Rattle.std.proofs.lemmas.Result.{IfOk-weaker}
 use Rattle.ide.specs.Servers.{written_view}
 use Rattle.ide.specs.Written.{Language}
-use Rattle.ide.proofs.Reopening.{sent_joined, told_only, turned}
+use Rattle.ide.proofs.Looks.{sent_joined, told_only, turned}
 use Rattle.ide.proofs.ide.Ide.turned.Goals as goal
 
 pub returns-in-None : goal.returns-in-None

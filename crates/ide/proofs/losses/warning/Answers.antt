@@ -1,6 +1,0 @@
-use Rattle.std.proofs.Common.{refl}
-use Rattle.serde_json.specs.View.{view}
-use Rattle.ide.proofs.losses.warning.Goals as goal
-
-pub returns : goal.returns
-returns c = (view c.in_ok-told_value.field-0, refl)

@@ -1,0 +1,4 @@
+mod OfferTexts
+mod Refusals
+pub mod OwnAlone
+mod ReplyRows

@@ -1,0 +1,111 @@
+-- What the editor's server replies to the requests that the core doesn't know.
+use Rattle.std.specs.Prelude.{◌≡◌, ◌+◌, ◌&&◌, ℕ, List, ◌++◌, take, drop, map, decimal, if◌then◌else◌}
+use Rattle.std.specs.Prelude.{Option, Some, None}
+use Rattle.std.specs.FinMap.{get}
+use Rattle.std.specs.Str.{bytes_eq}
+use Rattle.serde_json.specs.Data.{Data}
+use Rattle.definitions.specs.Text.{offset, position}
+use Rattle.definitions.specs.declared.Position.{Position}
+use Rattle.definitions.specs.declared.Range.{Range}
+use Rattle.completion.specs.Offers.{AreOffers}
+use Rattle.mending.specs.declared.repair.Repair.{Repair}
+use Rattle.colours.specs.Parts.{Scans, coloured, decoded, within}
+use Rattle.readings.specs.Texts.{OpenDocument}
+use Rattle.replies.specs.Ids.{Ident}
+use Rattle.replies.specs.Replies.{error_reply}
+use Rattle.replies.specs.declared.reply.Refusal.TheVariants.{DocumentLost, DocumentNotOpen, InvalidParams}
+use Rattle.sessions.specs.Documents.{DocumentState, is_lost, is_open}
+use Rattle.questions.specs.Asked.{Asked, Question, about, its_brackets, its_changes, its_colours, its_fixes, its_hover, its_lines}
+use Rattle.questions.specs.Asked.{its_offers, its_outline, misfit}
+use Rattle.editor_replies.specs.Sent.{Message, NumbersEdit, OfferData, changes, colours, offers, own, some_result}
+use Rattle.own_replies.specs.States.{IdeState, Told, next}
+
+-- the numbers decode to exactly the parts of those tokens of the document whose rule has a colour (LSP 3.17, "Semantic Tokens")
+abbrev pub AreColours : IdeState → OpenDocument → List ℕ → Type 0
+AreColours old d numbers =
+    Scans old.core.file.patterns d.text (λ tokens. decoded numbers ≡ coloured d.unit d.text old.shown.palette tokens)
+
+-- `AreColoursOfLines old d first end numbers`: the same of the parts on the lines from `first` up to `end`, that one left out
+abbrev pub AreColoursOfLines : IdeState → OpenDocument → ℕ → ℕ → List ℕ → Type 0
+AreColoursOfLines old d first end numbers =
+    Scans old.core.file.patterns d.text (λ tokens. decoded numbers ≡ within first end (coloured d.unit d.text old.shown.palette tokens))
+
+-- the name of the next result: its number
+abbrev pub next_name : IdeState → List ℕ
+next_name old = decimal (next old.number)
+
+-- `tells old uri numbers`: the colours of the whole document are sent as the next result
+abbrev pub tells : IdeState → List ℕ → List ℕ → IdeState
+tells old uri numbers = record {
+  core = old.core;
+  shown = old.shown;
+  number = next old.number;
+  told = Some (record { uri = uri; name = next_name old; numbers = numbers });
+}
+
+-- `since told uri previous`: the numbers that were sent last, where they are the document's and the result has this name
+abbrev pub since : Option Told → List ℕ → List ℕ → Option (List ℕ)
+since None uri previous = None
+since (Some told) uri previous =
+    if bytes_eq told.uri uri && bytes_eq told.name previous then Some told.numbers else None
+
+-- `edited change numbers`: from place `start` on `delete_count` numbers give way to others; without a change all stay (LSP 3.17,
+-- "SemanticTokensEdit")
+abbrev pub edited : Option NumbersEdit → List ℕ → List ℕ
+edited None numbers = numbers
+edited (Some e) numbers = take e.start numbers ++ e.numbers ++ drop (e.start + e.delete_count) numbers
+
+-- `AreChanges id name before numbers message`: the numbers are sent, as this result: as a change of those before, or where there are none,
+-- whole
+abbrev pub AreChanges : Ident → List ℕ → Option (List ℕ) → List ℕ → Message → Type 0
+AreChanges id name None numbers message = message ≡ colours id (Some name) numbers
+AreChanges id name (Some before) numbers message =
+    (change : Option NumbersEdit) × (edited change before ≡ numbers) × (message ≡ changes id name change)
+
+-- from one offset of a document up to another
+abbrev pub between : OpenDocument → ℕ → ℕ → Range
+between d start end = record { start = position d.unit d.text start; end = position d.unit d.text end }
+
+-- `AreOffersAt old id d place message`: the texts of exactly the rules that may follow at a position are offered, in file order, in
+-- the place of the word before it. Where no sentence begins with what stands before that, it is as some repairs mend it
+abbrev pub AreOffersAt : IdeState → Ident → OpenDocument → Position → Message → Type 0
+AreOffersAt old id d place message =
+    (start : ℕ) × (found : List (ℕ × List ℕ)) × (shown_offers : List OfferData) × (repairs : List Repair)
+    × AreOffers old.core.file old.shown.texts repairs d.text (offset d.unit d.text place) start found
+    × (map (λ o. o.text) shown_offers ≡ map (λ r. r.1) found)
+    × (message ≡ offers id (between d start (offset d.unit d.text place)) shown_offers)
+
+-- `IsSomeResult id message`: a result, whichever
+abbrev pub IsSomeResult : Ident → Message → Type 0
+IsSomeResult id message = (value : Data) × (message ≡ some_result id value)
+
+-- `IsReplyOf old id uri d question message new`: what is replied about the open document of a URI, and what stays of it: its colours,
+-- what has changed of them, or those of some lines; what may follow at a position; or some outline, text about a position, brackets, or
+-- fixes
+abbrev pub IsReplyOf : IdeState → Ident → List ℕ → OpenDocument → Question → Message → IdeState → Type 0
+IsReplyOf old id uri d its_colours message new =
+    (numbers : List ℕ) × AreColours old d numbers × (message ≡ colours id (Some (next_name old)) numbers)
+    × (new ≡ tells old uri numbers)
+IsReplyOf old id uri d (its_changes previous) message new =
+    (numbers : List ℕ) × AreColours old d numbers
+    × AreChanges id (next_name old) (since old.told uri previous) numbers message × (new ≡ tells old uri numbers)
+IsReplyOf old id uri d (its_lines first end) message new =
+    (numbers : List ℕ) × AreColoursOfLines old d first end numbers × (message ≡ colours id None numbers) × (new ≡ old)
+IsReplyOf old id uri d (its_offers place) message new = AreOffersAt old id d place message × (new ≡ old)
+IsReplyOf old id uri d its_outline message new = IsSomeResult id message × (new ≡ old)
+IsReplyOf old id uri d (its_hover place) message new = IsSomeResult id message × (new ≡ old)
+IsReplyOf old id uri d (its_brackets place) message new = IsSomeResult id message × (new ≡ old)
+IsReplyOf old id uri d (its_fixes range) message new = IsSomeResult id message × (new ≡ old)
+
+-- `IsReplyAbout old id uri document question message new`: what is replied about a document: that it isn't open; or why it is lost;
+-- or, where it is open, what `IsReplyOf` has
+abbrev pub IsReplyAbout : IdeState → Ident → List ℕ → Option DocumentState → Question → Message → IdeState → Type 0
+IsReplyAbout old id uri None question message new = (message ≡ own (error_reply (Some id) DocumentNotOpen)) × (new ≡ old)
+IsReplyAbout old id uri (Some (is_lost loss)) question message new =
+    (message ≡ own (error_reply (Some id) (DocumentLost loss))) × (new ≡ old)
+IsReplyAbout old id uri (Some (is_open d)) question message new = IsReplyOf old id uri d question message new
+
+-- `IsReply old id asked message new`: what is replied to a request of the editor's server
+abbrev pub IsReply : IdeState → Ident → Asked → Message → IdeState → Type 0
+IsReply old id misfit message new = (message ≡ own (error_reply (Some id) InvalidParams)) × (new ≡ old)
+IsReply old id (about uri question) message new = IsReplyAbout old id uri (get old.core.documents uri) question message new

@@ -1,0 +1,98 @@
+-- The requests that the editor's server answers itself, not the core (LSP 3.17, "Language Features").
+use Rattle.std.specs.Prelude.{ℕ, ◌+◌, max, min, if◌then◌else◌, List, codes, Option, Some, None, option_and_then, option_map, string_bytes}
+use Rattle.std.specs.Str.{bytes_eq}
+use Rattle.serde_json.specs.Data.{Data}
+use Rattle.serde_json.specs.Find.{get}
+use Rattle.definitions.specs.declared.Position.{Position}
+use Rattle.definitions.specs.declared.Range.{Range}
+use Rattle.rpc.specs.Fields.{text_at}
+use Rattle.rpc.specs.Reading.{params_at, position_at, range_of, uri_at, value_of}
+use Rattle.questions.specs.declared.asked.Asked.{Asked as Put}
+use Rattle.questions.specs.declared.asked.Asked.TheVariants as put
+use Rattle.questions.specs.declared.asked.Question.{Question as Wish}
+use Rattle.questions.specs.declared.asked.Question.TheVariants as wish
+
+-- what is asked of a document: its colours; what has changed of them since the result of this name; those of the lines from one up to
+-- another, that one left out; its outline; or at a position what may follow, what stands there, or the brackets of one node of which one is
+-- there; or what mends the faults at a range
+pub data Question : Type 0 where
+  its_colours : Question
+  its_changes : List ℕ → Question
+  its_lines : ℕ → ℕ → Question
+  its_outline : Question
+  its_offers : Position → Question
+  its_hover : Position → Question
+  its_brackets : Position → Question
+  its_fixes : Range → Question
+
+-- what a request asks: of the document of a URI this; or its parameters don't fit its method
+pub data Asked : Type 0 where
+  about : List ℕ → Question → Asked
+  misfit : Asked
+
+-- the lines that a range has a part of, its ends in either order: the first one, and the one after the last, at most the greatest number of
+-- 32 bits
+abbrev pub lines_of : Range → ℕ × ℕ
+lines_of r = (min r.start.line r.end.line, min (max r.start.line r.end.line + 1) 4_294_967_295)
+
+-- `about_document uri question`: the question about the document of the URI; where one is missing, the parameters don't fit
+abbrev pub about_document : Option (List ℕ) → Option Question → Asked
+about_document (Some uri) (Some question) = about uri question
+about_document _ _ = misfit
+
+-- the range that is asked about (LSP 3.17, "CodeActionParams")
+abbrev pub range_asked : Data → Option Range
+range_asked d = option_and_then range_of (get (codes "range") d)
+
+-- what `textDocument/semanticTokens/range` asks of a document, by its parameters (LSP 3.17, "SemanticTokensRangeParams")
+abbrev pub lines_asked : Data → Option Question
+lines_asked d = option_map (λ r. its_lines (lines_of r).0 (lines_of r).1) (range_asked d)
+
+-- the name of the result since which changes are asked for (LSP 3.17, "SemanticTokensDeltaParams")
+abbrev pub name_asked : Data → Option (List ℕ)
+name_asked d = text_at (codes "previousResultId") d
+
+-- the position that is asked about (LSP 3.17, "TextDocumentPositionParams")
+abbrev pub place_asked : Data → Option Position
+place_asked d = position_at (codes "position") d
+
+-- `asked_of method d`: what a request of this method with the parameters `d` asks; none where the method is not the editor's server's
+abbrev pub asked_of : List ℕ → Data → Option Asked
+asked_of method d =
+    if bytes_eq method (codes "textDocument/semanticTokens/full") then Some (about_document (uri_at d) (Some its_colours)) else (
+    if bytes_eq method (codes "textDocument/semanticTokens/full/delta")
+    then Some (about_document (uri_at d) (option_map its_changes (name_asked d))) else (
+    if bytes_eq method (codes "textDocument/semanticTokens/range") then Some (about_document (uri_at d) (lines_asked d)) else (
+    if bytes_eq method (codes "textDocument/documentSymbol") then Some (about_document (uri_at d) (Some its_outline)) else (
+    if bytes_eq method (codes "textDocument/completion")
+    then Some (about_document (uri_at d) (option_map its_offers (place_asked d))) else (
+    if bytes_eq method (codes "textDocument/hover") then Some (about_document (uri_at d) (option_map its_hover (place_asked d))) else (
+    if bytes_eq method (codes "textDocument/documentHighlight")
+    then Some (about_document (uri_at d) (option_map its_brackets (place_asked d))) else (
+    if bytes_eq method (codes "textDocument/codeAction")
+    then Some (about_document (uri_at d) (option_map its_fixes (range_asked d))) else
+    None)))))))
+
+-- what a JSON value asks, by its method and parameters
+abbrev pub asked_by : Data → Option Asked
+asked_by d = option_and_then (λ method. asked_of method (params_at d)) (text_at (codes "method") d)
+
+-- what a content asks; none where it is no JSON value, or its method is not the editor's server's
+abbrev pub asked_in : List ℕ → Option Asked
+asked_in content = option_and_then asked_by (value_of content)
+
+-- a question of the code as a `Question`
+abbrev pub question_view : Wish → Question
+question_view wish.Colours = its_colours
+question_view (wish.Changes previous) = its_changes (string_bytes previous)
+question_view (wish.Lines first end) = its_lines first end
+question_view wish.Outline = its_outline
+question_view (wish.Offers position) = its_offers position
+question_view (wish.Hover position) = its_hover position
+question_view (wish.Brackets position) = its_brackets position
+question_view (wish.Fixes range) = its_fixes range
+
+-- what a request of the code asks, as `Asked`
+abbrev pub asked_view : Put → Asked
+asked_view (put.About uri question) = about (string_bytes uri) (question_view question)
+asked_view put.Misfit = misfit

@@ -1,0 +1,2 @@
+pub mod ShownAnswers
+mod ShownRows
