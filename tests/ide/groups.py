@@ -12,7 +12,7 @@ from tests import TOP
 from tests.common import serving
 from tests.common.cases import Cases
 from tests.common.serving import received
-from tests.ide import behind, crates, faulty, languages, sessions, tables, trouble
+from tests.ide import behind, crates, faulty, followed, languages, sessions, tables, trouble
 from tests.ide import written as written_files
 from tests.ide.client import (
     Client,
@@ -257,6 +257,7 @@ GROUPS: List[Group] = [
     *behind.GROUPS,
     *crates.GROUPS,
     *faulty.GROUPS,
+    *followed.GROUPS,
     *sessions.GROUPS,
     *written_files.GROUPS,
     *trouble.GROUPS,

@@ -30,6 +30,7 @@ LEAST: Dict[str, int] = {
     "shown_behind": 1500,
     "faults_behind": 28,
     "fixes": 130,
+    "followed": 1803,
     "typed_key_by_key": 3,
     "started": 4,
     "requests": 28,

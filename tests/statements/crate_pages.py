@@ -25,10 +25,12 @@ NOT_RUN = (
     "outline",
     "own_replies",
     "questions",
+    "remedies",
     "reopening",
     "serving",
     "settings",
     "shown",
+    "states",
     "wording",
 )
 

@@ -15,7 +15,7 @@ use Rattle.definitions.proofs.TokensUnique.{IsPiece-inside}
 use Rattle.readings.proofs.SumsRows.{after_number, num, plus, single, single_is, skips, sums, sums_file}
 use Rattle.readings.proofs.SumTokenRows.{InMemory, a_blank_token, a_plus_token, one_digit, patterns, token}
 use Rattle.settings.specs.declared.expressions.RuleText.{RuleText}
-use Rattle.mending.specs.declared.repair.Change.TheVariants.{Keep, LeaveOut, PutIn}
+use Rattle.remedies.specs.declared.change.Change.TheVariants.{Keep, LeaveOut, PutIn}
 use Rattle.mending.specs.declared.repair.Repair.{Repair}
 use Rattle.completion.specs.Mended.{As_mended, As_they_are, EndsInvalid, GoOnAs, Not_at_all, changed_before, mended_before}
 use Rattle.completion.specs.Offers.{AreOffers}

@@ -3,8 +3,8 @@ use Rattle.completion.proofs.Common.{◌++◌, ◌+◌, ◌<◌, ◌≤◌, ◌�
 use Rattle.std.proofs.Math.Seq.{drop-cons}
 use Rattle.std.proofs.lemmas.List.{drop_all}
 use Rattle.definitions.specs.declared.Kind.TheVariants.{Invalid}
-use Rattle.mending.specs.declared.repair.Change.{Change}
-use Rattle.mending.specs.declared.repair.Change.TheVariants.{LeaveOut, PutIn}
+use Rattle.remedies.specs.declared.change.Change.{Change}
+use Rattle.remedies.specs.declared.change.Change.TheVariants.{LeaveOut, PutIn}
 use Rattle.completion.specs.Mended.{changed_before}
 
 changed_none : (changes : List Change) → changed_before changes [] ≡ []

@@ -2,7 +2,7 @@
 
 ghost use Rattle.std.specs.Prelude.{◌≡◌, ◌≤◌, ◌∷◌, ◌++◌, List, IfOk, MatchBool, OnOk, drop, length, option_to_list, take};
 ghost use Rattle.lexer.specs.Rescans.{significant_kinds};
-ghost use Rattle.mending.specs.declared.repair.Change.{Change as PlainChange};
+ghost use Rattle.remedies.specs.declared.change.Change.{Change as PlainChange};
 ghost use Rattle.completion.specs.Mended.{EndsInvalid, changed_before, mended_before, repaired_before};
 
 use definitions::Kind;

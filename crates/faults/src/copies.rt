@@ -1,6 +1,7 @@
 //! The mended copy of a document's kinds.
 
-ghost use Rattle.std.specs.Prelude.{◌≡◌, IfOk, IfSome, length};
+ghost use Rattle.std.specs.Prelude.{◌≡◌, IfOk, IfSome, List, length};
+ghost use Rattle.definitions.specs.declared.Kind.{Kind as TokenKind};
 ghost use Rattle.docs.specs.Docs.{IsCurrent};
 ghost use Rattle.lexer.specs.Rescans.{significant_kinds};
 ghost use Rattle.mending.specs.Mendings.{IsMendingOf};
@@ -30,6 +31,27 @@ pub fn mended(
     let ranks = ranks(alloc, texts)?;
     let kinds = Significant(doc.tokens());
     Ok(Some(Mending::whole(alloc, language.tables(), &ranks, &kinds)?))
+}
+
+/// The copy of a document's kinds that `mended` makes, made of one of the same language, as that
+/// of the document before some changes. Where these are small, so is what it costs: where a
+/// document has no fault, keep the last copy for its next one. `texts` are those of the language's
+/// rules. Refuses for memory alone; then the copy is gone.
+pub fn followed(
+    alloc: Global,
+    language: &Language,
+    texts: &[Option<RuleText>],
+    doc: &Doc,
+    before: Mending,
+) -> Result<Mending, AllocError>
+    requires current { IsCurrent language.now doc.now }
+    requires copy { (kinds : List TokenKind) × IsMendingOf language.now.tables kinds before }
+    ensures { IfOk result
+        (IsMendingOf language.now.tables (significant_kinds doc.now.tokens.items)) }
+{
+    let ranks = ranks(alloc, texts)?;
+    let kinds = Significant(doc.tokens());
+    before.follow(alloc, language.tables(), &ranks, &kinds)
 }
 
 /// The ranks of rules with these texts: of two kinds that mend a fault as well, the one of the

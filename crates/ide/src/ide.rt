@@ -121,9 +121,6 @@ impl Ide {
     fn keep_copy_of(&mut self, alloc: Global, about: &Subject) -> Result<(), AllocError>
         ensures { state_of self.new ≡ state_of self.old }
     {
-        if !about.is_request {
-            self.known.copied = None;
-        }
         if about.uri.is_empty() {
             return Ok(());
         }
@@ -132,7 +129,7 @@ impl Ide {
 
     /// Whether it is initialized, and isn't shut down.
     pub fn is_ready(&self) -> bool {
-        matches!(self.known.core.phase(), Phase::Ready(_))
+        matches!(self.known.core.server().phase(), Phase::Ready(_))
     }
 
     /// What comes of a request that is answered here.
@@ -158,7 +155,7 @@ impl Ide {
     {
         match opened {
             Some(uri) => {
-                self.uris = open_uris(alloc, &self.known.core, &self.uris, uri.as_str())?;
+                self.uris = open_uris(alloc, self.known.core.server(), &self.uris, uri.as_str())?;
                 Ok(uri)
             }
             None => Ok(String::new(alloc)),
@@ -200,7 +197,7 @@ impl Ide {
             StepOnContent (state_of self.old) content.items (later_view later.now) (sent s) s.stop
             (state_of self.new)) }
     {
-        let phase = self.known.core.phase();
+        let phase = self.known.core.server().phase();
         let Content {
             message,
             own,
@@ -236,17 +233,15 @@ impl Ide {
         let Written { language, shown } = written;
         let Core { server, replies } = reopened(
             alloc,
-            &self.known.core,
+            self.known.core.server(),
             &self.uris,
             unit,
             language,
         )?;
-        self.known.core = server;
+        self.known.core.replace(server);
         self.known.shown = shown;
         self.results.forget();
-        self.known.copied = None;
-        self.known
-            .show(alloc, replies, "", &subject_in(alloc, "", false)?)
+        self.known.show(alloc, replies, "", &subject_in(alloc, "")?)
     }
 
     /// The notifications as they are sent, and the request to watch the files of these paths,
@@ -322,7 +317,7 @@ impl Ide {
             IfOk result (λ messages. AfterLook old.core.phase old files
             (map message_view messages.items) (state_of self.new)) }
     {
-        match self.known.core.phase() {
+        match self.known.core.server().phase() {
             Phase::Ready(unit) => self.turned(alloc, unit, paths, looked),
             Phase::New | Phase::Down => Ok(Vec::new(alloc)),
         }

@@ -21,10 +21,11 @@ NUM = "a text"
 [texts]
 NAME = "some\nname"
 BLANK = "a blank"
+NOTE = "// \"x\""
 "#;
 
 /// Found texts, of rule `SEMI` (6) where nothing else is said, and their messages.
-const FOUND: [(Found<'static>, &str); 13] = [
+const FOUND: [(Found<'static>, &str); 15] = [
     (Found::End, "the end of the text"),
     (Found::Invalid("?"), "\"?\", which begins no token"),
     (Found::Invalid(""), "\"\", which begins no token"),
@@ -66,6 +67,20 @@ const FOUND: [(Found<'static>, &str); 13] = [
     (
         Found::Token {
             rule: 6,
+            text: "\"a\"",
+        },
+        "'\"a\"'",
+    ),
+    (
+        Found::Token {
+            rule: 6,
+            text: "\"it's\"",
+        },
+        "\"\"it's\"\"",
+    ),
+    (
+        Found::Token {
+            rule: 6,
             text: "123456789 123456789 123456789 ",
         },
         "\"123456789 123456789 123456789 \"",
@@ -81,13 +96,14 @@ const FOUND: [(Found<'static>, &str); 13] = [
 
 /// Rules that were expected, whether the end was, what the message says of them, and all with
 /// their names; nothing where the message names all.
-const EXPECTED: [(&[usize], bool, &str, &str); 11] = [
+const EXPECTED: [(&[usize], bool, &str, &str); 12] = [
     (&[6], false, "\";\"", ""),
     (&[], true, "the end of the text", ""),
     (&[6, 7], false, "\";\" or \":\"", ""),
     (&[1, 6], true, "\"IF\", \";\" or the end of the text", ""),
     (&[0, 8], false, "a new name or NAME", ""),
     (&[9, 10], false, "a text", ""),
+    (&[12], false, "'// \"x\"'", ""),
     (&[4, 6], false, "\";\" or \"+\"", ""),
     (
         &[4, 5, 6],

@@ -1,3 +1,3 @@
-pub mod OnStack
 pub mod Mended
-pub mod Moves
+pub mod Looks
+pub mod Checks

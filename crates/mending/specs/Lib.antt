@@ -1,3 +1,2 @@
-pub mod Stacks
-pub mod Changes
 pub mod Mendings
+pub mod Seams

@@ -8,7 +8,7 @@ use Rattle.tables.specs.Expected.{AreExpected}
 use Rattle.tables.specs.Tables.{Sets}
 use Rattle.mending.specs.declared.mending.Mending.{Mending}
 use Rattle.mending.specs.declared.repair.Repair.{Repair}
-use Rattle.mending.specs.Changes.{changed, passed}
+use Rattle.remedies.specs.Changes.{changed, passed}
 
 -- `repaired r copy`: the copy after a repair
 abbrev pub repaired : Repair → List Kind → List Kind
@@ -33,9 +33,12 @@ pub data IsMended (g : Grammar) (kinds : List Kind) : List Repair → List Kind 
   With_more : (repairs : List Repair) (copy : List Kind) (r : Repair) → IsMended g kinds repairs copy → IsRepairOf g kinds copy r
       → IsMended g kinds (repairs ++ (r ∷ [])) (repaired r copy)
 
--- `IsMendingOf t kinds m`: what mends the kinds: its copy is what its repairs make of them, and its parse is that of the copy; behind the
--- last repair, the copy is the kinds from number `from` on
+-- the parse of a mended copy is that of its kinds
+abbrev pub HasParse : Sets → Mending → Type 0
+HasParse t m = IsParseOf t m.copy.items m.store m.parse
+
+-- `IsMendingOf t kinds m`: what mends the kinds: it has these, its copy is what its repairs make of them, and its parse is that of the copy
 pub record IsMendingOf (t : Sets) (kinds : List Kind) (m : Mending) : Type 0 where
+  pub origin : m.origin.items ≡ kinds
   pub mended : IsMended t.grammar kinds m.repairs.items m.copy.items
-  pub parse : IsParseOf t m.copy.items m.store m.parse
-  pub unchanged : drop m.done m.copy.items ≡ drop m.from kinds
+  pub parse : HasParse t m

@@ -1,15 +1,6 @@
 //! What mends a fault.
 
-/// What is done at a place of the kinds.
-#[derive(Clone, Copy, Debug, PartialEq, Eq)]
-pub enum Change {
-    /// The kind of this token rule is put in.
-    PutIn(usize),
-    /// The next kind is left out.
-    LeaveOut,
-    /// The next kind stays.
-    Keep,
-}
+use remedies::Change;
 
 /// What mends a fault: changes of the kinds from a place on. Its places are those of the copy as
 /// the repairs before it have left it, but for `from`.

@@ -6,12 +6,14 @@
 //! accept has no line.
 #![tactic(auto)]
 
+mod following;
 mod planting;
 mod ranks;
 
 use anyhow::{Result, bail};
 use definitions::{Kind, Unit};
 use docs::{Doc, Language};
+use following::Following;
 use mending::{Listed, Mending};
 use planting::{Planter, is_faulty};
 use rand_pcg::Pcg32;
@@ -23,7 +25,7 @@ use std::time::Instant;
 /// Of how many times the least counts.
 const ROUNDS: usize = 3;
 
-const USAGE: &str = "usage: mending_bench GRAMMAR MOST COUNT SEED TEXT..";
+const USAGE: &str = "usage: mending_bench [follow] GRAMMAR MOST COUNT SEED TEXT..";
 
 /// What is asked for.
 #[derive(Clone, Copy)]
@@ -33,6 +35,8 @@ struct Request {
     /// How many texts with so many faults are made of each text.
     count: usize,
     seed: u64,
+    /// Whether copies follow edits.
+    is_following: bool,
 }
 
 /// A word of the command line.
@@ -165,6 +169,16 @@ impl<'a> Bench<'a> {
         Ok(Some(least))
     }
 
+    /// What follows edits of a text of so many bytes.
+    fn following(&self, bytes: usize) -> Following<'a> {
+        Following {
+            rt: self.rt,
+            planter: self.planter,
+            ranks: self.ranks,
+            bytes,
+        }
+    }
+
     /// Mends the texts that are made of a file's.
     fn run(&self, path: &str) -> Result<()> {
         let text = read(self.rt, path)?;
@@ -178,6 +192,12 @@ impl<'a> Bench<'a> {
             micros,
         };
         let mut random = Pcg32::new(self.request.seed, 54);
+        if self.request.is_following {
+            let (most, count) = (self.request.most, self.request.count);
+            return self
+                .following(sample.bytes)
+                .run(&mut random, &kinds, most, count);
+        }
         for count in 0..self.request.most {
             self.plant(&mut random, sample, count.saturating_add(1))?;
         }
@@ -189,11 +209,17 @@ fn main(rt: HostRuntime) -> Result<()> {
     let alloc = rt.alloc();
     let mut words = std::env::args(&rt)?;
     words.next();
-    let grammar = read(&rt, word(&mut words)?.as_str())?;
+    let mut first = word(&mut words)?;
+    let is_following = first.as_str() == "follow";
+    if is_following {
+        first = word(&mut words)?;
+    }
+    let grammar = read(&rt, first.as_str())?;
     let request = Request {
         most: number(&mut words)?,
         count: number(&mut words)?,
         seed: number(&mut words)? as u64,
+        is_following,
     };
     let Ok(language) = Language::load(alloc, grammar.as_str()) else {
         bail!("the grammar was refused");

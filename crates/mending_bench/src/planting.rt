@@ -154,4 +154,10 @@ impl<'a> Planter<'a> {
         let faulty = with_faults(self.alloc, kinds, &faults)?;
         Ok((faulty, faults.len()))
     }
+
+    /// The kinds after an edit at a random place.
+    pub fn edit(&self, random: &mut Pcg32, kinds: &[Kind]) -> Result<Vec<Kind>, AllocError> {
+        let fault = some_fault(random, self.rules, kinds.len());
+        with_faults(self.alloc, kinds, &[fault])
+    }
 }

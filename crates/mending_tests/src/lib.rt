@@ -2,4 +2,6 @@
 #![tactic(auto)]
 
 #[cfg(test)]
+mod follows;
+#[cfg(test)]
 mod mendings;

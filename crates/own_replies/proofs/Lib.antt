@@ -2,3 +2,4 @@ mod OfferTexts
 mod Refusals
 pub mod OwnAlone
 mod ReplyRows
+mod Repaired

@@ -22,7 +22,7 @@ of_open : (old : IdeState) (id : Ident) (uri : List ℕ) (d : OpenDocument) (que
 of_open old id uri d its_colours message new r = (ap core_part r.2, ap (λ (s : IdeState). s.core) r.3)
 of_open old id uri d (its_changes previous) message new r = (of_changes id _ (since old.told uri previous) r.0 message r.2, ap (λ (s : IdeState). s.core) r.3)
 of_open old id uri d (its_lines first end) message new r = (ap core_part r.2, ap (λ (s : IdeState). s.core) r.3)
-of_open old id uri d (its_offers place) message new r = (ap core_part r.0.6, ap (λ (s : IdeState). s.core) r.1)
+of_open old id uri d (its_offers place) message new r = (ap core_part r.0.7, ap (λ (s : IdeState). s.core) r.1)
 of_open old id uri d its_outline message new r = (ap core_part r.0.1, ap (λ (s : IdeState). s.core) r.1)
 of_open old id uri d (its_hover place) message new r = (ap core_part r.0.1, ap (λ (s : IdeState). s.core) r.1)
 of_open old id uri d (its_brackets place) message new r = (ap core_part r.0.1, ap (λ (s : IdeState). s.core) r.1)

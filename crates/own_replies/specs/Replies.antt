@@ -7,7 +7,11 @@ use Rattle.serde_json.specs.Data.{Data}
 use Rattle.definitions.specs.Text.{offset, position}
 use Rattle.definitions.specs.declared.Position.{Position}
 use Rattle.definitions.specs.declared.Range.{Range}
+use Rattle.definitions.specs.declared.Kind.{Kind}
+use Rattle.definitions.specs.Tokens.{kinds}
+use Rattle.grammar.specs.Grammars.{FileGrammar}
 use Rattle.completion.specs.Offers.{AreOffers}
+use Rattle.mending.specs.Mendings.{IsMended}
 use Rattle.mending.specs.declared.repair.Repair.{Repair}
 use Rattle.colours.specs.Parts.{Scans, coloured, decoded, within}
 use Rattle.readings.specs.Texts.{OpenDocument}
@@ -66,11 +70,18 @@ AreChanges id name (Some before) numbers message =
 abbrev pub between : OpenDocument → ℕ → ℕ → Range
 between d start end = record { start = position d.unit d.text start; end = position d.unit d.text end }
 
+-- `AreRepairsOf file t repairs`: the repairs mend faults of a text: each stands at the first fault of what those before it have made of the
+-- kinds of its tokens
+abbrev pub AreRepairsOf : FileGrammar → List ℕ → List Repair → Type 0
+AreRepairsOf file t repairs =
+    Scans file.patterns t (λ tokens. (copy : List Kind) × IsMended file.grammar (kinds file.skips tokens) repairs copy)
+
 -- `AreOffersAt old id d place message`: the texts of exactly the rules that may follow at a position are offered, in file order, in
--- the place of the word before it. Where no sentence begins with what stands before that, it is as some repairs mend it
+-- the place of the word before it. Where no sentence begins with what stands before that, it is as repairs of the text mend it
 abbrev pub AreOffersAt : IdeState → Ident → OpenDocument → Position → Message → Type 0
 AreOffersAt old id d place message =
-    (start : ℕ) × (found : List (ℕ × List ℕ)) × (shown_offers : List OfferData) × (repairs : List Repair)
+    (start : ℕ) × (found : List (ℕ × List ℕ)) × (shown_offers : List OfferData)
+    × (repairs : List Repair) × AreRepairsOf old.core.file d.text repairs
     × AreOffers old.core.file old.shown.texts repairs d.text (offset d.unit d.text place) start found
     × (map (λ o. o.text) shown_offers ≡ map (λ r. r.1) found)
     × (message ≡ offers id (between d start (offset d.unit d.text place)) shown_offers)

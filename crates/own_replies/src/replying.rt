@@ -8,7 +8,7 @@ ghost use Rattle.rpc.specs.Replies.{error_reply};
 ghost use Rattle.server.specs.States.{language_of};
 ghost use Rattle.editor_replies.specs.Sent.{colours, message_view, own};
 ghost use Rattle.questions.specs.Asked.{asked_view, question_view};
-ghost use Rattle.own_replies.specs.Replies.{next_name, since, tells, AreChanges, AreOffersAt, IsReply, IsReplyAbout, IsReplyOf};
+ghost use Rattle.own_replies.specs.Replies.{next_name, since, tells, AreChanges, AreOffersAt, AreRepairsOf, IsReply, IsReplyAbout, IsReplyOf};
 ghost use Rattle.own_replies.specs.Servers.{after, replying_state, state_with};
 
 use crate::offered::all_offered;
@@ -128,12 +128,16 @@ impl<'a> Replying<'a> {
     fn language(&self) -> &Language
         ensures { result.now ≡ language_of self.now.known.now.core }
     {
-        self.known.core.language()
+        self.known.core.server().language()
     }
 
-    /// What mends the document of this URI, where a copy is kept.
-    fn repairs(&self, uri: &str) -> &[Repair] {
-        match self.known.kept(uri) {
+    /// What mends a document, where a copy is kept.
+    fn repairs(&self, doc: &Doc) -> &[Repair]
+        requires { IsCurrent (language_of self.now.known.now.core) doc.now }
+        ensures { let file = (replying_state self.now).core.file in
+            AreRepairsOf file doc.now.text result.now }
+    {
+        match self.known.kept(doc) {
             Some(mending) => mending.repairs(),
             None => &[],
         }
@@ -156,7 +160,7 @@ impl<'a> Replying<'a> {
     {
         let (text, unit, language) = (doc.characters(), doc.unit(), self.language());
         let offset = text.offset(unit, position);
-        let (texts, repairs) = (&self.known.shown.texts, self.repairs(uri));
+        let (texts, repairs) = (&self.known.shown.texts, self.repairs(doc));
         let Offers { start, offers } = offers_at(alloc, language, texts, doc, repairs, offset)?;
         let range = Range {
             start: text.position(unit, start),
@@ -172,7 +176,7 @@ impl<'a> Replying<'a> {
         requires { IsCurrent (language_of self.now.known.now.core) doc.now }
     {
         let (language, settings) = (self.language(), &self.known.shown.settings);
-        let symbols = outline(alloc, language, settings, doc, self.known.kept(uri))?;
+        let symbols = outline(alloc, language, settings, doc, self.known.kept(doc))?;
         outline_value(alloc, uri, &symbols, self.known.client.nested)
     }
 
@@ -192,7 +196,7 @@ impl<'a> Replying<'a> {
             Markup::Plain
         };
         let (language, settings) = (self.language(), &self.known.shown.settings);
-        let copy = self.known.kept(uri);
+        let copy = self.known.kept(doc);
         let found = hover(alloc, language, settings, doc, copy, position, markup)?;
         hover_value(alloc, &found, markup)
     }
@@ -205,7 +209,7 @@ impl<'a> Replying<'a> {
         doc: &Doc,
         position: Position,
     ) -> Result<Value, AllocError> {
-        let found = brackets(alloc, self.language(), doc, self.known.kept(uri), position)?;
+        let found = brackets(alloc, self.language(), doc, self.known.kept(doc), position)?;
         brackets_value(alloc, &found)
     }
 
@@ -213,7 +217,7 @@ impl<'a> Replying<'a> {
     fn fixes(&self, alloc: Global, uri: &str, doc: &Doc, range: Range) -> Result<Value, AllocError>
         requires { IsCurrent (language_of self.now.known.now.core) doc.now }
     {
-        let Some(mending) = self.known.kept(uri) else {
+        let Some(mending) = self.known.kept(doc) else {
             return fixes_value(alloc, uri, &[]);
         };
         let about = About {
@@ -297,7 +301,7 @@ impl<'a> Replying<'a> {
             IsReplyAbout old (id_view id) uri.now document question
             (message_view r.message) (after old r.told)) }
     {
-        match self.known.core.document(uri) {
+        match self.known.core.server().document(uri) {
             Ok(doc) => self.reply_of(alloc, id, uri, doc, question),
             Err(refusal) => Ok(Replied {
                 message: refused(id, refusal),

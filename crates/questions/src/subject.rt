@@ -11,16 +11,13 @@ pub struct Subject {
     pub uri: String,
     /// The positions around which it is asked what can be selected.
     pub positions: Vec<Position>,
-    /// No document is another one after it.
-    pub is_request: bool,
 }
 
 /// A document that is changed or asked about.
-pub fn subject_in(alloc: Global, uri: &str, is_request: bool) -> Result<Subject, AllocError> {
+pub fn subject_in(alloc: Global, uri: &str) -> Result<Subject, AllocError> {
     Ok(Subject {
         uri: String::from_str(alloc, uri)?,
         positions: Vec::new(alloc),
-        is_request,
     })
 }
 
@@ -30,20 +27,14 @@ pub fn subject_of(
     message: &Result<Message, RpcFault>,
 ) -> Result<Subject, AllocError> {
     match message {
-        Ok(Message::Request(_, Call::FoldingRange { uri })) => subject_in(
-            alloc,
-            uri.as_str(),
-            true,
-        ),
         Ok(Message::Request(_, Call::SelectionRange { uri, positions })) => Ok(Subject {
             uri: String::from_str(alloc, uri.as_str())?,
             positions: positions.clone()?,
-            is_request: true,
         }),
-        Ok(Message::Request(..)) => subject_in(alloc, "", true),
-        Ok(Message::Notice(Note::DidOpen { uri, .. } | Note::DidChange { uri, .. })) => {
-            subject_in(alloc, uri.as_str(), false)
-        }
-        _ => subject_in(alloc, "", false),
+        Ok(
+            Message::Request(_, Call::FoldingRange { uri })
+            | Message::Notice(Note::DidOpen { uri, .. } | Note::DidChange { uri, .. }),
+        ) => subject_in(alloc, uri.as_str()),
+        _ => subject_in(alloc, ""),
     }
 }

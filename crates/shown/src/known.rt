@@ -1,28 +1,27 @@
 //! What is known between two messages.
 
-ghost use Rattle.std.specs.Prelude.{◌≡◌};
+ghost use Rattle.std.specs.Prelude.{◌≡◌, IfSome};
+ghost use Rattle.lexer.specs.Rescans.{significant_kinds};
+ghost use Rattle.mending.specs.Mendings.{IsMendingOf};
 ghost use Rattle.sessions.specs.Steps.{first_state};
-ghost use Rattle.server.specs.States.{state_view};
+ghost use Rattle.server.specs.States.{language_of, state_view};
 
-use crate::copied::Copied;
+use crate::kept::Kept;
 use crate::shown::Shown;
-use docs::Language;
+use docs::{Doc, Language};
 use mending::Mending;
 use questions::Client;
-use server::Server;
 use std::alloc::{AllocError, Global};
 
 /// What is known between two messages of the documents, of their language, and of the editor.
 #[derive(Drop)]
 pub struct Known {
-    /// The server of the documents.
-    pub core: Server,
+    /// The server of the documents, and a mended copy of one.
+    pub core: Kept,
     /// What the editor is shown of their language.
     pub shown: Shown,
     /// What the editor can show.
     pub client: Client,
-    /// The last mended copy that was asked for, until a document may be another one.
-    pub copied: Option<Copied>,
 }
 
 impl Known {
@@ -32,19 +31,18 @@ impl Known {
         ensures shown { result.shown ≡ shown }
     {
         Known {
-            core: Server::new(alloc, language),
+            core: Kept::new(alloc, language),
             shown,
             client: Client::default(),
-            copied: None,
         }
     }
 
-    /// The mended copy of the document of this URI, where it is kept.
-    pub fn kept(&self, uri: &str) -> Option<&Mending> {
-        match &self.copied {
-            Some(copied) => copied.mending(uri),
-            None => None,
-        }
+    /// The mended copy of a document that has a fault, where it is kept.
+    pub fn kept(&self, doc: &Doc) -> Option<&Mending>
+        ensures { IfSome result (λ m. IsMendingOf (language_of self.now.core).tables
+            (significant_kinds doc.now.tokens.items) m.now) }
+    {
+        self.core.copy(doc)
     }
 
     /// Keeps the mended copy of the document of this URI, if it is open and has a fault. Refuses
@@ -53,14 +51,6 @@ impl Known {
         ensures core { self.new.core ≡ self.old.core }
         ensures shown { self.new.shown ≡ self.old.shown }
     {
-        if let Some(copied) = &self.copied
-            && copied.is_of(uri)
-        {
-            return Ok(());
-        }
-        // The memory of the old copy is free before there is another one.
-        self.copied = None;
-        self.copied = Some(Copied::of(alloc, &self.core, &self.shown, uri)?);
-        Ok(())
+        self.core.keep_copy(alloc, &self.shown.texts, uri)
     }
 }

@@ -16,21 +16,21 @@
 //! ```
 //! let known = Known::new(alloc, language, shown);
 //! let replies = Vec::from_array(alloc, [Reply::Null { id: Id::Number(7) }]).ok()?;
-//! let about = subject_in(alloc, "", true).ok()?;
+//! let about = subject_in(alloc, "").ok()?;
 //! let messages = known.show(alloc, replies, "", &about).ok()?;
 //! println!(rt; "{}", messages.len()).ok()
 //! // 1
 //! ```
 #![tactic(auto)]
 
-mod copied;
 mod faulty;
 mod grown;
+mod kept;
 mod known;
 mod losses;
 mod showing;
 mod shown;
 
 pub use self::shown::Shown;
-pub use copied::Copied;
+pub use kept::Kept;
 pub use known::Known;

@@ -1,8 +1,10 @@
 //! The core's answers as they are sent.
 
-ghost use Rattle.std.specs.Prelude.{◌≡◌, Some, map, option_map, string_bytes, IfOk, OnOk};
+ghost use Rattle.std.specs.Prelude.{◌≡◌, Some, map, option_map, string_bytes, IfOk, IfSome, OnOk};
+ghost use Rattle.docs.specs.Docs.{IsCurrent};
 ghost use Rattle.replies.specs.Ids.{id_view};
 ghost use Rattle.rpc.specs.Replies.{diagnostic_view, folds_reply, published_diagnostics, reply_view, selections_reply};
+ghost use Rattle.server.specs.States.{language_of};
 ghost use Rattle.editor_replies.specs.Sent.{message_view};
 ghost use Rattle.shown.specs.Shown.{comment_of, shown_data, AreShown, IsPushed, IsShown};
 
@@ -11,7 +13,9 @@ use crate::grown::{grown_folds, grown_selections};
 use crate::known::Known;
 use crate::losses::{lost_by, told_about};
 use definitions::{Diagnostic, Range};
+use docs::Doc;
 use editor_replies::{Fault, Sent};
+use mending::Mending;
 use outline::mended_selections;
 use questions::Subject;
 use rpc::{Id, Reply};
@@ -29,17 +33,25 @@ impl Known {
         }
     }
 
+    /// The open document of this URI that has a fault, with its mended copy, where it is kept.
+    fn mended(&self, uri: &str) -> Option<(&Doc, &Mending)>
+        ensures { IfSome result (λ found. IsCurrent (language_of self.now.core) found.0.now) }
+    {
+        let doc = self.core.server().document(uri).ok()?;
+        Some((doc, self.kept(doc)?))
+    }
+
     /// What is said of the fault of the document of this URI, and of those behind it; where it has
     /// none, the core's text.
     fn told_of(&self, alloc: Global, uri: &str, text: &str) -> Result<ToldFault, AllocError> {
-        if let Ok(doc) = self.core.document(uri)
+        if let Ok(doc) = self.core.server().document(uri)
             && let Some(told) = told_fault(
                 alloc,
-                self.core.language(),
+                self.core.server().language(),
                 &self.shown,
                 doc,
                 uri,
-                self.kept(uri),
+                self.kept(doc),
                 self.client.related,
             )?
         {
@@ -119,11 +131,11 @@ impl Known {
             IfOk result (λ s. IsShown (shown_data self.now.shown) answer (message_view s)) }
     {
         let uri = about.uri.as_str();
-        let more = match (self.core.document(uri), self.kept(uri)) {
-            (Ok(doc), Some(mending)) => {
-                more_folds(alloc, self.core.language(), doc, mending, &pairs)?
+        let more = match self.mended(uri) {
+            Some((doc, mending)) => {
+                more_folds(alloc, self.core.server().language(), doc, mending, &pairs)?
             }
-            _ => Vec::new(alloc),
+            None => Vec::new(alloc),
         };
         if more.is_empty() {
             return Ok(Sent::Core(Reply::Folds { id, pairs }));
@@ -145,12 +157,12 @@ impl Known {
             IfOk result (λ s. IsShown (shown_data self.now.shown) answer (message_view s)) }
     {
         let (uri, positions) = (about.uri.as_str(), &about.positions);
-        let others = match (self.core.document(uri), self.kept(uri)) {
-            (Ok(doc), Some(mending)) => {
-                let language = self.core.language();
+        let others = match self.mended(uri) {
+            Some((doc, mending)) => {
+                let language = self.core.server().language();
                 Some(mended_selections(alloc, language, doc, mending, positions)?)
             }
-            _ => None,
+            None => None,
         };
         match others {
             Some(others) if others.len() == selections.len() => {

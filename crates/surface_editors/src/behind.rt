@@ -1,6 +1,7 @@
 //! What callers rely on of `faults`.
 
-ghost use Rattle.std.specs.Prelude.{◌≡◌, ◌≤◌, IfOk, IfSome, length, map};
+ghost use Rattle.std.specs.Prelude.{◌≡◌, ◌≤◌, IfOk, IfSome, List, length, map};
+ghost use Rattle.definitions.specs.declared.Kind.{Kind as TokenKind};
 ghost use Rattle.docs.specs.Docs.{IsCurrent};
 ghost use Rattle.docs.specs.Languages.{LanguageData};
 ghost use Rattle.faults.specs.Places.{AreInText, ranges_behind};
@@ -35,6 +36,22 @@ pub fn mended(
         (IsMendingOf language.now.tables (significant_kinds doc.now.tokens.items))) }
 {
     faults::mended(alloc, language, texts, doc)
+}
+
+/// `faults::followed`.
+pub fn followed(
+    alloc: Global,
+    language: &Language,
+    texts: &[Option<RuleText>],
+    doc: &Doc,
+    before: Mending,
+) -> Result<Mending, AllocError>
+    requires current { IsCurrent language.now doc.now }
+    requires copy { (kinds : List TokenKind) × IsMendingOf language.now.tables kinds before }
+    ensures { IfOk result
+        (IsMendingOf language.now.tables (significant_kinds doc.now.tokens.items)) }
+{
+    faults::followed(alloc, language, texts, doc, before)
 }
 
 /// `faults::words_of_fault`.

@@ -32,6 +32,22 @@ pub fn whole(
     Mending::whole(alloc, tables, ranks, &Listed { kinds })
 }
 
+/// `Mending::follow`.
+pub fn follow(
+    alloc: Global,
+    tables: &Tables,
+    ranks: &[u8],
+    kinds: &[Kind],
+    before: Mending,
+) -> Result<Mending, AllocError>
+    requires { (old : List TokenKind) × IsMendingOf tables.now old before }
+    ensures mended { IfOk result (IsMendingOf tables.now kinds.now) }
+    ensures sentence { IsSentence tables.now.grammar kinds.now
+        → IfOk result (λ m. m.repairs.items ≡ []) }
+{
+    before.follow(alloc, tables, ranks, &Listed { kinds })
+}
+
 /// `Mending::repairs`.
 pub fn repairs(mending: &Mending) -> &[Repair]
     ensures { result.now ≡ mending.now.repairs.items }

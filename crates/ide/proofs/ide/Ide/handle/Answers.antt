@@ -4,6 +4,7 @@ use Rattle.std.proofs.lemmas.Result.{IfOk-weaker}
 use Rattle.readings.proofs.Results.{if_ok_both}
 use Rattle.rpc.specs.Ids.{id_view}
 use Rattle.rpc.specs.Messages.{received_of}
+use Rattle.server.specs.States.{state_view}
 use Rattle.questions.specs.Asked.{Asked}
 use Rattle.questions.specs.Cancels.{IsCancelled, later_view}
 use Rattle.questions.specs.Own.{own_view}
@@ -21,7 +22,7 @@ returns c =
     let same : id ≡ id_view c.in-Some.id.now = c.in_ok-id.ensures in
     let asks : Some id ≡ option_and_then (question_id old.core.phase) read =
     ap (λ i. Some i) same ∙ ap (option_map (λ i. id_view i.now)) (sym c.in-Some.is) ∙ c.question_id.ensures
-    ∙ ap (λ p. option_and_then (question_id p) read) c.phase-phase.ensures in
+    ∙ ap (λ p. option_and_then (question_id p) read) (c.phase-phase.ensures ∙ ap (λ s. (state_view s).phase) c.server.ensures) in
     let cancelled : IsCancelled id later = subst (λ i. IsCancelled i later) (sym same) (c.is_cancelled.ensures c.if-is_cancelled.true) in
     if_ok_both c.one.result (λ s one halt. left_off old content later read id (sent s) s.stop _ c.in_ok-message.ensures.message asks cancelled one halt refl)
     c.one.ensures.messages c.one.ensures.stop
@@ -35,6 +36,6 @@ returns-in-Some-own c =
     let own : Ident × Asked = own_view c.in-Some-own.request in
     let asks : Some own ≡ option_and_then (λ r. own_of old.core.phase r (asked_in content)) read =
     ap (option_map own_view) (sym c.in-Some-own.is) ∙ c.in_ok-message.ensures.own
-    ∙ ap (λ p. option_and_then (λ r. own_of p r (asked_in content)) read) c.phase-phase.ensures in
+    ∙ ap (λ p. option_and_then (λ r. own_of p r (asked_in content)) read) (c.phase-phase.ensures ∙ ap (λ s. (state_view s).phase) c.server.ensures) in
     IfOk-weaker c.answer.result _ _ (λ s a. answered old content later read own (sent s) s.stop (state_of c.answer.new.self)
     c.in_ok-message.ensures.message asks a) c.answer.ensures.answers

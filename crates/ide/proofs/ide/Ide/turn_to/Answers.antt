@@ -1,4 +1,4 @@
-use Rattle.ide.proofs.Common.{◌≡◌, refl, map, message_view, state_of, None, rules}
+use Rattle.ide.proofs.Common.{◌≡◌, refl, subst, sym, map, message_view, state_of, None, rules}
 use Rattle.std.proofs.lemmas.Result.{IfOk-weaker}
 use Rattle.replies.specs.Replies.{reply_view}
 use Rattle.server.specs.States.{state_view}
@@ -13,9 +13,12 @@ pub returns : goal.returns
 returns c =
     let old = state_of c.args.self.now in
     let files = written_view c.args.written in
-    let core = state_view c.in_ok-server.field-0.server in
+    let server = c.in_ok-server.field-0.server in
+    let core = state_view c.replace.new.self in
     let answers = map reply_view c.in_ok-server.field-0.replies.items in
-    let reopens : Reopens old.core c.args.unit files.0 answers core = search rules in
+    let there : Reopens (state_view c.server.result.now) c.args.unit files.0 answers (state_view server) = search rules in
+    let here : Reopens old.core c.args.unit files.0 answers (state_view server) = subst (λ s. Reopens (state_view s) c.args.unit files.0 answers (state_view server)) c.server.ensures there in
+    let reopens : Reopens old.core c.args.unit files.0 answers core = subst (λ s. Reopens old.core c.args.unit files.0 answers (state_view s)) (sym c.replace.ensures) here in
     let results = c.forget.new.self in
     let new : IdeState = record { core = core; shown = files.1; number = number_of results; told = last_of results } in
     let same : new ≡ record { core = core; shown = files.1; number = old.number; told = None } = rw (c.forget.ensures.number, c.forget.ensures.last) refl in

@@ -1,14 +1,16 @@
-use Rattle.std.proofs.Common.{refl, subst, sym}
-use Rattle.parser.specs.Parses.{IsParseOf}
+use Rattle.std.proofs.Common.{◌≡◌, ◌∙◌, ap, subst, sym}
 use Rattle.mending.specs.Mendings.{IsMended, With_none}
 use Rattle.mending.proofs.mending.Mending.unmended.Goals as goal
 
 pub returns : goal.returns
 returns c =
-    let t = c.args.tables.now in
-    let kinds = c.args.copy.items in
+    let g = c.args.tables.now.grammar in
+    let kinds = c.args.origin.items in
+    let made = c.in_ok-mending.mending in
+    let is = c.in_ok-mending.ensures in
+    let same : made.copy.items ≡ kinds = ap (λ v. v.items) is.kinds.1 ∙ c.in_ok-copy.ensures.items ∙ c.deref.ensures.value in
     record {
-      mended = subst (λ repairs. IsMended t.grammar kinds repairs kinds) (sym c.new.ensures.items) With_none;
-      parse = subst (λ l. IsParseOf t l c.whole.new.store c.in_ok-parse.parse) c.deref.ensures.value c.in_ok-parse.ensures.parse;
-      unchanged = refl;
+      origin = ap (λ v. v.items) is.kinds.0;
+      mended = subst (λ l. IsMended g kinds made.repairs.items l) (sym same) (subst (λ rs. IsMended g kinds rs kinds) (sym is.repairs) With_none);
+      parse = is.parse;
     }

@@ -24,4 +24,4 @@ returns c =
     let last : c.position-2.result ≡ position d.unit d.text at = search rules in
     let message : offers (id_view c.args.id) (record { start = c.position.result; end = c.position-2.result }) (map offer_view items)
     ≡ offers (id_view c.args.id) (between d start at) (map offer_view items) = rw (first, last) refl in
-    (start, map offer found, map offer_view items, repairs, are, same_texts items found texts, message)
+    (start, map offer found, map offer_view items, repairs, c.repairs-repairs.ensures, are, same_texts items found texts, message)

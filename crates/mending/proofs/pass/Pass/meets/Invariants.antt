@@ -1,0 +1,5 @@
+use Rattle.std.proofs.Common.{◌≡◌}
+use Rattle.mending.proofs.pass.Pass.meets.Given as goal
+
+abbrev pub invariant-loop : goal.invariant-loop
+invariant-loop l = (l.self.tables ≡ l.fn.self.tables) × (l.self.before ≡ l.fn.self.before)

@@ -1,0 +1,336 @@
+//! The search for few changes that mend a fault (Corchuelo and others 2002; Diekmann and Tratt
+//! 2020).
+
+use crate::ahead::{Ahead, ENOUGH};
+use crate::change::Change;
+use definitions::Kind;
+use indexmap::IndexSet;
+use std::alloc::{AllocError, Global};
+
+/// How many kinds may be put in or left out together.
+const MOST_CHANGES: usize = 4;
+
+/// How many kinds have to go on after a change so that a fault behind them is another one.
+const NEAR: usize = 32;
+
+/// How many kinds have to go on, where the moves run out before all changes are tried.
+const FEW: usize = 8;
+
+/// How many changes a fault costs that comes sooner, since it mostly follows from the changes.
+const SOON: usize = 3;
+
+/// How many changes another fault costs.
+const LATER: usize = 1;
+
+/// How many places with as many changes are tried.
+const MOST_PLACES: usize = 512;
+
+/// The highest sum of ranks by which places are told apart.
+const MOST_RANK: usize = 16;
+
+/// How many repairs are found at most.
+const MOST_REPAIRS: usize = 8;
+
+/// The rank of leaving a kind out, and of what isn't ranked.
+const LEFT_OUT: usize = 1;
+
+/// A place to which changes lead.
+#[derive(Clone, Copy)]
+struct Place {
+    /// The stack there.
+    stack: usize,
+    /// How many of the kinds ahead are passed.
+    passed: usize,
+    /// The number of the place from which one change leads here.
+    from: usize,
+    /// How many kinds stay between them.
+    kept: usize,
+    /// That change.
+    change: Change,
+    /// The sum of the ranks of all changes that lead here.
+    rank: usize,
+}
+
+/// How good a place is.
+#[derive(Clone, Copy)]
+struct Rating {
+    /// How many kinds are put in and left out.
+    changes: usize,
+    /// These, and what a fault behind them costs.
+    cost: usize,
+    /// How many of the kinds ahead are passed there.
+    passed: usize,
+    /// The number of the first kind with which it doesn't go on.
+    reach: usize,
+    rank: usize,
+    /// The number of the place.
+    place: usize,
+}
+
+impl Rating {
+    /// Whether a fault comes so soon that another way is better, where not all are tried.
+    fn is_doubtful(self) -> bool {
+        self.reach < self.passed.saturating_add(FEW)
+    }
+
+    /// Whether it is better than another one.
+    fn is_better(self, other: Rating) -> bool {
+        if self.cost != other.cost {
+            return self.cost < other.cost;
+        }
+        if self.reach != other.reach {
+            return other.reach < self.reach;
+        }
+        self.rank < other.rank
+    }
+}
+
+/// A search for what mends the fault at the first of some kinds.
+#[derive(Drop)]
+pub struct Search<'a> {
+    alloc: Global,
+    pub ahead: Ahead<'a>,
+    /// The rank of each token rule, of which low ones are put in rather than high ones.
+    ranks: &'a [u8],
+    places: Vec<Place>,
+    /// How many places there may be.
+    most: usize,
+    /// The stack of each place, and how many kinds are passed there.
+    seen: IndexSet<(usize, usize)>,
+    /// The places from where enough kinds go on.
+    found: Vec<Rating>,
+    best: Option<Rating>,
+}
+
+impl<'a> Search<'a> {
+    /// A search that begins with this stack.
+    pub fn new(
+        alloc: Global,
+        ahead: Ahead<'a>,
+        ranks: &'a [u8],
+        stack: usize,
+    ) -> Result<Search<'a>, AllocError> {
+        let mut places = Vec::new(alloc);
+        places.push(Place {
+            stack,
+            passed: 0,
+            from: 0,
+            kept: 0,
+            change: Change::Keep,
+            rank: 0,
+        })?;
+        Ok(Search {
+            alloc,
+            ahead,
+            ranks,
+            places,
+            most: 0,
+            seen: IndexSet::new(alloc),
+            found: Vec::new(alloc),
+            best: None,
+        })
+    }
+
+    /// Adds a place, unless the same is there, reached by no more changes.
+    fn add(&mut self, place: Place) -> Result<(), AllocError> {
+        if self.places.len() < self.most && self.seen.insert((place.stack, place.passed))? {
+            self.places.push(place)?;
+        }
+        Ok(())
+    }
+
+    /// Adds the place where the next kind is left out, if there is one.
+    fn leave_out(&mut self, here: Place) -> Result<(), AllocError> {
+        if self.ahead.kinds.len() <= here.passed {
+            return Ok(());
+        }
+        self.add(Place {
+            passed: here.passed.saturating_add(1),
+            change: Change::LeaveOut,
+            rank: here.rank.saturating_add(LEFT_OUT),
+            ..here
+        })
+    }
+
+    /// Adds the place where a kind is put in, if it goes on.
+    fn put_in(&mut self, here: Place, rule: usize) -> Result<(), AllocError> {
+        let Some(stack) = self.ahead.stacks.read(here.stack, Kind::Rule(rule))? else {
+            return Ok(());
+        };
+        let rank = match self.ranks.get(rule) {
+            Some(rank) => *rank,
+            None => u8::MAX,
+        };
+        self.add(Place {
+            stack,
+            change: Change::PutIn(rule),
+            rank: here.rank.saturating_add(rank as usize),
+            ..here
+        })
+    }
+
+    /// Adds the places to which one change leads.
+    fn change(&mut self, here: Place) -> Result<(), AllocError> {
+        self.leave_out(here)?;
+        for look in self.ahead.stacks.expected(here.stack) {
+            if let Some(rule) = look {
+                self.put_in(here, rule)?;
+            }
+        }
+        Ok(())
+    }
+
+    /// Adds the places to which one change more leads, right at a place or a few kinds on.
+    fn expand(&mut self, number: usize) -> Result<(), AllocError> {
+        let Some(place) = self.places.get(number).copied() else {
+            return Ok(());
+        };
+        let mut here = Place {
+            from: number,
+            ..place
+        };
+        for kept in 0..ENOUGH {
+            here.kept = kept;
+            self.change(here)?;
+            let Some(stack) = self.ahead.read(here.stack, here.passed)? else {
+                return Ok(());
+            };
+            here.stack = stack;
+            here.passed = here.passed.saturating_add(1);
+        }
+        Ok(())
+    }
+
+    /// Rates a place, to which so many changes lead, if enough kinds go on from there.
+    fn rate(&mut self, number: usize, changes: usize) -> Result<(), AllocError> {
+        let Some(place) = self.places.get(number).copied() else {
+            return Ok(());
+        };
+        let reach = self.ahead.reach(place.stack, place.passed)?;
+        if !self.ahead.is_enough(place.passed, reach) {
+            return Ok(());
+        }
+        let more = if reach == usize::MAX {
+            0
+        } else if place.passed.saturating_add(NEAR) <= reach {
+            LATER
+        } else {
+            SOON
+        };
+        let rating = Rating {
+            changes,
+            cost: changes.saturating_add(more),
+            passed: place.passed,
+            reach,
+            rank: place.rank,
+            place: number,
+        };
+        self.found.push(rating)?;
+        match self.best {
+            Some(best) if !rating.is_better(best) => {}
+            _ => self.best = Some(rating),
+        }
+        Ok(())
+    }
+
+    /// Adds the places to which one change more leads than to those of a rank between two numbers.
+    fn expand_rank(&mut self, from: usize, to: usize, rank: usize) -> Result<(), AllocError> {
+        for number in from..to {
+            match self.places.get(number) {
+                Some(place) if place.rank.min(MOST_RANK) == rank => self.expand(number)?,
+                _ => {}
+            }
+        }
+        Ok(())
+    }
+
+    /// Adds and rates the places to which so many changes lead, one more than to those from number
+    /// `from` on, of which those of low ranks come first.
+    fn go_on(&mut self, from: usize, changes: usize) -> Result<(), AllocError> {
+        let to = self.places.len();
+        self.most = to.saturating_add(MOST_PLACES);
+        for rank in 0..=MOST_RANK {
+            self.expand_rank(from, to, rank)?;
+        }
+        for number in to..self.places.len() {
+            self.rate(number, changes)?;
+        }
+        Ok(())
+    }
+
+    /// The changes that lead to a place.
+    fn changes(&self, place: usize) -> Result<Vec<Change>, AllocError> {
+        let mut changes = Vec::new(self.alloc);
+        let mut number = place;
+        for _ in 0..MOST_CHANGES {
+            let Some(place) = self.places.get(number) else {
+                break;
+            };
+            if number == 0 {
+                break;
+            }
+            changes.push(place.change)?;
+            for _ in 0..place.kept {
+                changes.push(Change::Keep)?;
+            }
+            number = place.from;
+        }
+        changes.reverse();
+        Ok(changes)
+    }
+
+    /// The best of the places that are found, to which so many changes lead, but for these places.
+    fn next_best(&self, changes: usize, but: &[usize]) -> Option<Rating> {
+        let mut next: Option<Rating> = None;
+        for rating in &self.found {
+            if rating.changes != changes || but.contains(&rating.place) {
+                continue;
+            }
+            match next {
+                Some(best) if !rating.is_better(best) => {}
+                _ => next = Some(*rating),
+            }
+        }
+        next
+    }
+
+    /// The changes that lead to the best place, and then to others with as many changes.
+    fn repairs(&self, best: Rating) -> Result<Vec<Vec<Change>>, AllocError> {
+        let mut repairs = Vec::new(self.alloc);
+        let mut taken = Vec::new(self.alloc);
+        for _ in 0..MOST_REPAIRS {
+            let Some(next) = self.next_best(best.changes, &taken) else {
+                break;
+            };
+            taken.push(next.place)?;
+            repairs.push(self.changes(next.place)?)?;
+        }
+        Ok(repairs)
+    }
+
+    /// The cheapest changes after which enough kinds go on, where a fault that comes behind costs
+    /// too; of these the ones with which the most kinds go on, then those of the least rank, and
+    /// then the first ones, where leaving out comes before putting in, and that in file order.
+    /// They come first, and behind them others of as many changes, the best first, eight in all.
+    /// None where none are found, or where the moves run out before all are tried and a fault
+    /// comes right behind the best ones.
+    pub fn run(&mut self) -> Result<Option<Vec<Vec<Change>>>, AllocError> {
+        let mut from = 0;
+        for changes in 1..=MOST_CHANGES {
+            if let Some(best) = self.best
+                && best.cost <= changes
+            {
+                break;
+            }
+            let to = self.places.len();
+            self.go_on(from, changes)?;
+            from = to;
+        }
+        match self.best {
+            Some(best) if !best.is_doubtful() || !self.ahead.stacks.is_spent() => Ok(Some(
+                self.repairs(best)?,
+            )),
+            _ => Ok(None),
+        }
+    }
+}

@@ -1,0 +1,6 @@
+pub mod Common
+pub mod Moves
+pub mod Machines
+pub mod Descents
+pub mod StackWays
+pub mod Matches

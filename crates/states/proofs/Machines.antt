@@ -1,0 +1,108 @@
+-- What a move of the machine makes of its states.
+use Rattle.states.proofs.Common.{◌++◌, ◌+◌, ◌≤◌, ◌≡◌, ◌∙◌, ◌∷◌, ℕ, List, [], Some, ap, arith, get_or, length, length-append, refl, subst, sym, take, ◌-◌, HasMove, Accept, Reduce, Shift, Branch, Grammar, HasProduction, HaveRoots, Leaf, Tree, forest, trees, Kind, TokenRule, Symbol, Nonterminal, Terminal, run_on, states_push, state_under, states_after, HasStates, IsStateOf, Sets, length-roots, roots-append, run_join, Handle, accept_stack, handle, roots-forest, IsStackAfter, Reduced, Reduces, Run, Shifts, Stay, AreStatesAfter, AreStatesOn}
+
+-- before any kind
+pub states_first : (t : Sets) (start : ℕ) → IsStateOf t [] start → AreStatesAfter t [] (start ∷ [])
+states_first t start h = record {
+  stack = [];
+  after = refl;
+  has = record {
+    symbols = [];
+    roots = tt;
+    long = refl;
+    each = λ i lt. let first : 0 ≡ i = omega (arith, lt) in subst (λ j. IsStateOf t (take j []) (get_or (start ∷ []) j 0)) first h;
+  };
+}
+
+-- before a kind is read, nothing is reduced on it yet
+pub states_on : (t : Sets) (x : List Kind) (k : Kind) (states : List ℕ) → AreStatesAfter t x states → AreStatesOn t x k states
+states_on t x k states h = record { shifted = h.stack; after = h.after; stack = h.stack; run = Stay; has = h.has }
+
+-- a kind comes onto the stack
+put_last : (g : Grammar) (x : List Kind) (k : Kind) (below : List Tree) → Run g (Some k) [] x below → Shifts g below k
+    → IsStackAfter g (x ++ k ∷ []) (below ++ Leaf k ∷ [])
+put_last g [] k below run shifts = ([], k, below, refl, run, shifts, refl)
+put_last g (j ∷ x) k below run shifts = (j ∷ x, k, below, refl, run, shifts, refl)
+
+pub states_shifted : (t : Sets) (x : List Kind) (k : Kind) (states : List ℕ) (on : AreStatesOn t x k states) (a next : ℕ) → k ≡ TokenRule a
+    → HasMove t.grammar on.has.symbols (Some k) Shift → IsStateOf t (on.has.symbols ++ Terminal a ∷ []) next → AreStatesAfter t (x ++ k ∷ []) (states ++ next ∷ [])
+states_shifted t x k states on a next rule called there =
+    let g = t.grammar in
+    let symbols = on.has.symbols in
+    let leaf : HaveRoots g (Leaf k ∷ []) (Terminal a ∷ []) = subst (λ l. HaveRoots g (Leaf l ∷ []) (Terminal a ∷ [])) (sym rule) (refl, tt) in
+    let roots = roots-append g on.stack (Leaf k ∷ []) symbols (Terminal a ∷ []) on.has.roots leaf in
+    record {
+      stack = on.stack ++ Leaf k ∷ [];
+      after = put_last g x k on.stack (run_on g x on.shifted on.stack (Some k) on.after on.run) (record { symbols = symbols; roots = on.has.roots; called = called });
+      has = states_push t on.stack (on.stack ++ Leaf k ∷ []) states on.has (Terminal a) next roots there;
+    }
+
+trees-forest : (ts : List Tree) → trees (forest ts) ≡ ts
+trees-forest [] = refl
+trees-forest (t ∷ ts) = ap (λ l. t ∷ l) (trees-forest ts)
+
+-- the right side's symbols have states
+pub right_within : (t : Sets) (x : List Kind) (k : Kind) (states : List ℕ) (on : AreStatesOn t x k states) (p left : ℕ) (right : List Symbol)
+    → HasMove t.grammar on.has.symbols (Some k) (Reduce p) → HasProduction t.grammar p left right → length right ≤ length states
+right_within t x k states on p left right called production =
+    let h : Handle t.grammar on.stack on.has.symbols left right = handle t.grammar on.stack on.has.symbols (Some k) p left right on.has.roots called production in
+    omega (arith, on.has.long, ap length h.symbols_are, length-append h.d right)
+
+-- the trees of a right side give way to one of the left side
+module _ (t : Sets) (x : List Kind) (k : Kind) (states : List ℕ) (on : AreStatesOn t x k states) (p left : ℕ) (right : List Symbol)
+    (called : HasMove t.grammar on.has.symbols (Some k) (Reduce p)) (production : HasProduction t.grammar p left right) (m : ℕ) (at : m + length right ≡ length states) where
+  abbrev pub place : Handle t.grammar on.stack on.has.symbols left right
+  place = handle t.grammar on.stack on.has.symbols (Some k) p left right on.has.roots called production
+
+  depth : m ≡ length place.d + 1
+  depth = omega (arith, at, on.has.long, ap length place.symbols_are, length-append place.d right)
+
+  one_less : (m - 1) + 1 ≡ m
+  one_less = omega (arith, depth)
+
+  long : (m - 1) + length right ≡ length on.stack
+  long = omega (arith, depth, at, on.has.long, length-roots t.grammar on.stack on.has.symbols on.has.roots)
+
+  pub some_state : 1 ≤ m
+  some_state = omega (arith, depth)
+
+  pub state_below : IsStateOf t place.d (get_or (take m states) (length (take m states) - 1) 0)
+  state_below = subst (λ j. IsStateOf t place.d (get_or (take j states) (length (take j states) - 1) 0)) one_less
+      (state_under t on.stack states on.has on.has.symbols on.has.roots left right place (m - 1) long)
+
+  abbrev made : Tree
+  made = Branch p (forest place.kids)
+
+  reduces : Reduces t.grammar on.stack (Some k) (place.under ++ made ∷ [])
+  reduces = record {
+    symbols = on.has.symbols;
+    roots = on.has.roots;
+    number = p;
+    called = called;
+    below = place.under;
+    ts = forest place.kids;
+    left = left;
+    right = right;
+    production = production;
+    size = ap length (trees-forest place.kids) ∙ length-roots t.grammar place.kids right place.kids_roots;
+    from_is = place.stack_is ∙ ap (λ l. place.under ++ l) (sym (trees-forest place.kids));
+    to_is = refl;
+  }
+
+  pub states_reduced : (next : ℕ) → IsStateOf t (place.d ++ Nonterminal left ∷ []) next → AreStatesOn t x k (take m states ++ next ∷ [])
+  states_reduced next there =
+      let g = t.grammar in
+      let stack = place.under ++ made ∷ [] in
+      let roots = roots-append g place.under (made ∷ []) place.d (Nonterminal left ∷ []) place.under_roots ((right, production, roots-forest g place.kids right place.kids_roots), tt) in
+      record {
+        shifted = on.shifted;
+        after = on.after;
+        stack = stack;
+        run = run_join g [] on.run (Reduced reduces Stay);
+        has = subst (λ j. HasStates t stack (take j states ++ next ∷ [])) one_less
+            (states_after t on.stack states on.has on.has.symbols on.has.roots left right place (m - 1) long stack next roots there);
+      }
+
+-- nothing is accepted before a kind
+pub no_accept : (t : Sets) (x : List Kind) (k : Kind) (states : List ℕ) (on : AreStatesOn t x k states) → HasMove t.grammar on.has.symbols (Some k) Accept → ⊥
+no_accept t x k states on called = let e = (accept_stack t.grammar on.stack on.has.symbols (Some k) on.has.roots called).3 in cc e
