@@ -1,6 +1,6 @@
 -- What the proofs of this crate cite of definitions, of types and of other crates, passed on from one place. Declares nothing.
 pub use mathlib.Core.List.{head-eq_of_cons-eq, map-map, tail-eq_of_cons-eq}
-pub use Rattle.std.proofs.Common.{◌++◌, ◌+◌, ◌-◌, ◌<◌, ◌≤◌, ◌≡◌, ◌∙◌, ◌∷◌, Bool, IsTrue, List, MatchOption, is_some, None, Option, Some, [], ap, append_assoc, arith, drop, encode_utf8, encode_utf8_all, flat_map, false, get_or, inl, inr, length, length-append, length-drop, length-take, map, refl, rules, slice_get, slice_range, slice_set, string_bytes, subst, suc, vec_len, sym, take, take-append-drop, true, zero, ℕ}
+pub use Rattle.std.proofs.Common.{◌++◌, ◌+◌, ◌-◌, ◌<◌, ◌≤◌, ◌≡◌, ◌∙◌, ◌∷◌, Bool, IsTrue, List, MatchOption, is_some, None, Option, Some, [], ap, append_assoc, arith, drop, encode_utf8, encode_utf8_all, flat_map, false, get_or, inl, inr, length, length-drop, length-take, map, refl, slice_get, slice_range, slice_set, string_bytes, subst, suc, vec_len, sym, take, take-append-drop, true, zero, ℕ}
 pub use Rattle.std.proofs.lemmas.Bool.{cases_lt, ltb-false, ltb-true}
 pub use Rattle.std.proofs.lemmas.Iterator.{YieldsList-from_chars}
 pub use Rattle.std.proofs.lemmas.Iterator.Consumers.{YieldsList-end}
@@ -13,13 +13,10 @@ pub use Rattle.definitions.proofs.TokensUnique.{IsPiece-inside}
 pub use Rattle.std.specs.Char.Unicode.Lowercase.{is_lowercase}
 pub use Rattle.std.specs.List.{list_any}
 pub use Rattle.std.specs.Str.{chars as chars_of}
-pub use Rattle.definitions.specs.Items.{Accept, HasMove, Move, Reduce, Shift}
 pub use Rattle.definitions.specs.Sentences.{IsSentence, IsViable}
-pub use Rattle.definitions.specs.Trees.{Branch, Forest, Grammar, HasProduction, HaveRoots, Leaf, Tree, forest, trees}
+pub use Rattle.definitions.specs.Trees.{Grammar}
 pub use Rattle.definitions.specs.declared.Kind.{Kind}
 pub use Rattle.definitions.specs.declared.Kind.TheVariants.{Rule as TokenRule}
-pub use Rattle.definitions.specs.declared.Symbol.{Symbol}
-pub use Rattle.definitions.specs.declared.Symbol.TheVariants.{Nonterminal, Rule as Terminal}
 pub use Rattle.definitions.proofs.TokensLead.{chars, chars-cons}
 pub use Rattle.definitions.specs.Tokens.{AreTokens, IsPiece, Token as PlainToken, is_skipped}
 pub use Rattle.definitions.specs.declared.expression.Expression.{Expression}
@@ -33,20 +30,10 @@ pub use Rattle.lexer.specs.Rescans.{significant_kinds}
 pub use Rattle.lexer.specs.Tokens.{characters, kind_in, plain}
 pub use Rattle.lexer.specs.declared.sums.Sums.{Sums}
 pub use Rattle.lexer.specs.declared.sums.Token.{Token}
-pub use Rattle.parser.proofs.Moves.{run_on, states_push, top_stands}
-pub use Rattle.parser.proofs.Reductions.{state_under, states_after}
-pub use Rattle.parser.specs.Machine.{HasStates}
-pub use Rattle.tables.specs.Actions.{plain as plain_move}
 pub use Rattle.tables.specs.Expected.{AreExpected, in_file_order}
-pub use Rattle.tables.specs.Tables.{IsAccepted, IsStateOf, Sets}
-pub use Rattle.theory.proofs.Sets.{goto_there}
-pub use Rattle.theory.proofs.Simulation.{length-roots, roots-append, run_join}
-pub use Rattle.theory.proofs.Stack.{Handle, accept_stack, handle}
-pub use Rattle.theory.proofs.StackIsRead.{roots-forest}
-pub use Rattle.theory.proofs.Unique.{roots_unique}
-pub use Rattle.theory.proofs.Verdicts.{stuck_at_kind, viable_prefix}
-pub use Rattle.theory.specs.Machine.{IsStackAfter, Reduced, Reduces, Run, Shifts, Stay}
-pub use Rattle.completion.specs.Machine.{AreStatesAfter, AreStatesOn}
+pub use Rattle.tables.specs.Tables.{Sets}
+pub use Rattle.theory.proofs.Verdicts.{viable_prefix}
+pub use Rattle.states.specs.Piles.{AreStatesAfter}
 pub use Rattle.completion.specs.Offers.{offer}
 pub use Rattle.completion.specs.Places.{AreBefore, EndsAt, Expected, Goes_into, IsLetter, MayFollow, typed, unskipped}
 pub use Rattle.completion.specs.Words.{is_in_word, offer_of}

@@ -1,7 +1,4 @@
 pub mod Common
-pub mod Machines
-pub mod Descents
-pub mod StackWays
 pub mod Splits
 pub mod Looks
 pub mod Steps
@@ -9,5 +6,6 @@ pub mod Significant
 pub mod Matches
 pub mod Mendings
 pub mod Goings
+pub mod Piles
 pub mod Followers
 pub mod CompletionRows

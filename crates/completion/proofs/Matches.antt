@@ -1,11 +1,8 @@
 -- What a test or an option leaves of two facts.
-use Rattle.completion.proofs.Common.{◌≡◌, Bool, IfSome, MatchBool, MatchOption, None, Option, Some, false, is_some, subst, true}
+use Rattle.completion.proofs.Common.{◌≡◌, ◌∷◌, [], Bool, List, MatchBool, MatchOption, None, Option, Some, false, is_some, option_to_list, subst, true}
 
 pub of_true : (A B : Type 0) (b : Bool) → b ≡ true → MatchBool b A B → A
 of_true A B b e = subst (λ b. MatchBool b A B) e
-
-pub of_false : (A B : Type 0) (b : Bool) → b ≡ false → MatchBool b A B → B
-of_false A B b e = subst (λ b. MatchBool b A B) e
 
 pub of_none : {X : Type 0} → (P : Type 0) (Q : X → Type 0) (o : Option X) → o ≡ None → MatchOption o P Q → P
 of_none P Q o e = subst (λ o. MatchOption o P Q) e
@@ -22,5 +19,7 @@ pub none_after : {X : Type 0} → (P : Type 0) (Q : X → Type 0) (o : Option X)
 none_after P Q None e h = h
 none_after P Q (Some x) e h = absurd (cc e)
 
-pub if_some : {X : Type 0} → (P : X → Type 0) (o : Option X) (x : X) → o ≡ Some x → IfSome o P → P x
-if_some P o x e = subst (λ o. IfSome o P) e
+-- an option as a slice
+pub listed : {X : Type 0} → (o : Option X) (l : List X) → MatchOption o (l ≡ []) (λ x. l ≡ x ∷ []) → l ≡ option_to_list o
+listed None l h = h
+listed (Some x) l h = h

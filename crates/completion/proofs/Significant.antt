@@ -1,5 +1,5 @@
 -- The kinds of the first tokens that aren't skipped.
-use Rattle.completion.proofs.Common.{◌++◌, ◌+◌, ◌≡◌, ◌∙◌, ◌∷◌, ◌≤◌, ℕ, true, false, List, [], ap, append-nil, drop, length, sym, take, take-append-drop, take-take, refl, Kind, kind_in, kinds_append, significant_kinds, Token}
+use Rattle.completion.proofs.Common.{◌++◌, ◌+◌, ◌≡◌, ◌∙◌, ◌∷◌, ℕ, true, false, List, [], ap, append-nil, drop, length, sym, take, take-append-drop, refl, Kind, kind_in, kinds_append, significant_kinds, Token}
 use Rattle.std.proofs.Math.Seq.{take-append_seam}
 use Rattle.completion.proofs.Steps.{take_here}
 
@@ -20,12 +20,6 @@ pub kinds_taken : (xs : List Token) (n : ℕ) (x : Token) (rest : List Token) �
     → significant_kinds (take (n + 1) xs) ≡ significant_kinds (take n xs) ++ kind_in x ∷ []
 kinds_taken xs n x rest here e =
     ap significant_kinds (take_here xs n x rest here) ∙ kinds_append (take n xs) (x ∷ []) ∙ ap (λ l. significant_kinds (take n xs) ++ l) (alone_taken x e)
-
--- those of more tokens begin with them
-pub kinds_within : (xs : List Token) (n m : ℕ) → n ≤ m → significant_kinds (take m xs) ≡ significant_kinds (take n xs) ++ significant_kinds (drop n (take m xs))
-kinds_within xs n m le =
-    ap significant_kinds (sym (take-append-drop n (take m xs))) ∙ kinds_append (take n (take m xs)) (drop n (take m xs))
-    ∙ ap (λ l. significant_kinds l ++ significant_kinds (drop n (take m xs))) (take-take n m xs le)
 
 -- they are the first of all
 pub kinds_front : (xs : List Token) (n k : ℕ) → k ≡ length (significant_kinds (take n xs)) → take k (significant_kinds xs) ≡ significant_kinds (take n xs)

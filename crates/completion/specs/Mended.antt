@@ -4,9 +4,9 @@ use Rattle.definitions.specs.declared.Kind.{Kind}
 use Rattle.definitions.specs.declared.Kind.TheVariants.{Invalid, Rule}
 use Rattle.definitions.specs.Sentences.{IsViable}
 use Rattle.definitions.specs.Trees.{Grammar}
+use Rattle.mending.specs.declared.repair.Repair.{Repair}
 use Rattle.remedies.specs.declared.change.Change.{Change}
 use Rattle.remedies.specs.declared.change.Change.TheVariants.{Keep, LeaveOut, PutIn}
-use Rattle.mending.specs.declared.repair.Repair.{Repair}
 
 -- `changed_before changes kinds`: the kinds after changes from the first of them on, up to the last of them: nothing is put in behind it
 abbrev pub changed_before : List Change → List Kind → List Kind

@@ -6,7 +6,7 @@ ghost use Rattle.lexer.specs.Tokens.{plain};
 ghost use Rattle.tables.specs.Expected.{in_file_order};
 ghost use Rattle.completion.specs.Places.{MayFollow, unskipped};
 
-use crate::machine::expected;
+use crate::expected::expected;
 use crate::places::tokens_before;
 use definitions::Kind;
 use docs::{Doc, Language};

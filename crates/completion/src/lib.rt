@@ -28,9 +28,8 @@
 #![tactic(auto)]
 
 mod before;
-mod descent;
+mod expected;
 mod following;
-mod machine;
 mod offers;
 mod places;
 mod rule_texts;

@@ -5,7 +5,6 @@ ghost use Rattle.definitions.specs.Trees.{Grammar};
 ghost use Rattle.definitions.specs.declared.Kind.{Kind as TokenKind};
 ghost use Rattle.remedies.specs.Changes.{changed, passed};
 ghost use Rattle.remedies.specs.declared.change.Change.{Change as PlainChange};
-ghost use Rattle.states.specs.Piles.{AreStatesAfter};
 ghost use Rattle.tables.specs.Expected.{AreExpected};
 ghost use Rattle.mending.specs.Mendings.{HasParse, IsMended, IsMendingOf};
 ghost use Rattle.mending.specs.Seams.{DoesNotFollow, IsFaultAt, IsWithin, staged};
@@ -97,21 +96,6 @@ fn behind_changes(copy: &[Kind], kinds: &[Kind], from: Seam, changes: &[Change])
     Some(seam)
 }
 
-/// Reads kinds. Whether all go on.
-fn read_all(pile: &mut Pile<'_>, kinds: &[Kind]) -> Result<bool, AllocError>
-    ensures tables { pile.new.tables ≡ pile.old.tables }
-    ensures after { (x : List TokenKind) → AreStatesAfter pile.old.tables x pile.old.states
-        → IfOk result (λ go_on. go_on ≡ true
-        → AreStatesAfter pile.old.tables (x ++ kinds.now) pile.new.states) }
-{
-    for kind in kinds {
-        if !pile.read(*kind)? {
-            return Ok(false);
-        }
-    }
-    Ok(true)
-}
-
 /// Whether two rules, or the end, are the same.
 fn is_look(one: Option<usize>, other: Option<usize>) -> bool
     ensures { result ≡ false → one ≡ other → ⊥ }
@@ -167,7 +151,7 @@ impl Mending {
         let Some(mut pile) = Pile::at(alloc, tables, &self.store, &self.parse, seam.copy)? else {
             return Ok(None);
         };
-        if !read_all(&mut pile, kinds)? {
+        if !pile.read_all(kinds)? {
             return Ok(None);
         }
         let looks = listed(alloc, pile.expected())?;

@@ -1,5 +1,6 @@
 -- What a move of the machine makes of its states.
-use Rattle.states.proofs.Common.{◌++◌, ◌+◌, ◌≤◌, ◌≡◌, ◌∙◌, ◌∷◌, ℕ, List, [], Some, ap, arith, get_or, length, length-append, refl, subst, sym, take, ◌-◌, HasMove, Accept, Reduce, Shift, Branch, Grammar, HasProduction, HaveRoots, Leaf, Tree, forest, trees, Kind, TokenRule, Symbol, Nonterminal, Terminal, run_on, states_push, state_under, states_after, HasStates, IsStateOf, Sets, length-roots, roots-append, run_join, Handle, accept_stack, handle, roots-forest, IsStackAfter, Reduced, Reduces, Run, Shifts, Stay, AreStatesAfter, AreStatesOn}
+use Rattle.states.proofs.Common.{◌++◌, ◌+◌, ◌<◌, ◌≡◌, ◌∙◌, ◌∷◌, ℕ, suc, List, [], Some, ap, append_assoc, arith, drop, get_or, length, length-append, refl, subst, sym, take, take-append-drop, viable_prefix, ◌-◌, HasMove, Move, Accept, Reduce, Shift, IsViable, Branch, Grammar, HasProduction, HaveRoots, Leaf, Tree, forest, trees, Kind, TokenRule, Symbol, Nonterminal, Terminal, run_on, states_push, state_under, states_after, HasStates, IsAccepted, IsStateOf, Sets, length-roots, roots-append, run_join, Handle, accept_stack, handle, roots-forest, roots_unique, after_viable, move_iff_viable, stuck_at_kind, IsStackAfter, Reduced, Reduces, Run, Shifts, Stay, AreStatesAfter, AreStatesOn}
+use Rattle.std.proofs.Math.Seq.{drop-cons}
 
 -- before any kind
 pub states_first : (t : Sets) (start : ℕ) → IsStateOf t [] start → AreStatesAfter t [] (start ∷ [])
@@ -41,9 +42,9 @@ trees-forest : (ts : List Tree) → trees (forest ts) ≡ ts
 trees-forest [] = refl
 trees-forest (t ∷ ts) = ap (λ l. t ∷ l) (trees-forest ts)
 
--- the right side's symbols have states
+-- the right side's symbols have states, and one is below them
 pub right_within : (t : Sets) (x : List Kind) (k : Kind) (states : List ℕ) (on : AreStatesOn t x k states) (p left : ℕ) (right : List Symbol)
-    → HasMove t.grammar on.has.symbols (Some k) (Reduce p) → HasProduction t.grammar p left right → length right ≤ length states
+    → HasMove t.grammar on.has.symbols (Some k) (Reduce p) → HasProduction t.grammar p left right → length right < length states
 right_within t x k states on p left right called production =
     let h : Handle t.grammar on.stack on.has.symbols left right = handle t.grammar on.stack on.has.symbols (Some k) p left right on.has.roots called production in
     omega (arith, on.has.long, ap length h.symbols_are, length-append h.d right)
@@ -62,9 +63,6 @@ module _ (t : Sets) (x : List Kind) (k : Kind) (states : List ℕ) (on : AreStat
 
   long : (m - 1) + length right ≡ length on.stack
   long = omega (arith, depth, at, on.has.long, length-roots t.grammar on.stack on.has.symbols on.has.roots)
-
-  pub some_state : 1 ≤ m
-  some_state = omega (arith, depth)
 
   pub state_below : IsStateOf t place.d (get_or (take m states) (length (take m states) - 1) 0)
   state_below = subst (λ j. IsStateOf t place.d (get_or (take j states) (length (take j states) - 1) 0)) one_less
@@ -102,6 +100,35 @@ module _ (t : Sets) (x : List Kind) (k : Kind) (states : List ℕ) (on : AreStat
         has = subst (λ j. HasStates t stack (take j states ++ next ∷ [])) one_less
             (states_after t on.stack states on.has on.has.symbols on.has.roots left right place (m - 1) long stack next roots there);
       }
+
+-- where there is no move on the kind, no sentence goes on with it
+pub stuck : (t : Sets) (x : List Kind) (k : Kind) (states : List ℕ) (on : AreStatesOn t x k states) → IsAccepted t.grammar
+    → ((move : Move) → HasMove t.grammar on.has.symbols (Some k) move → ⊥) → ¬ IsViable t.grammar (x ++ k ∷ [])
+stuck t x k states on accepted none =
+    (stuck_at_kind t.grammar accepted.free accepted.productive x on.shifted on.stack k on.after on.run
+    (λ m. none m.move (subst (λ l. HasMove t.grammar l (Some k) m.move) (roots_unique t.grammar on.stack m.symbols on.has.symbols m.roots on.has.roots) m.called))).0
+
+-- where there is one right after the last kind, some sentence does
+pub goes_on : (t : Sets) (x : List Kind) (k : Kind) (states : List ℕ) (after : AreStatesAfter t x states) → IsAccepted t.grammar
+    → (move : Move) → HasMove t.grammar after.has.symbols (Some k) move → IsViable t.grammar (x ++ k ∷ [])
+goes_on t x k states after accepted move called =
+    (move_iff_viable t.grammar accepted.free accepted.productive x after.stack k after.after).0
+    (record { symbols = after.has.symbols; roots = after.has.roots; move = move; called = called })
+
+-- kinds that the machine has read begin a sentence
+pub begins : (t : Sets) (x : List Kind) (states : List ℕ) → IsAccepted t.grammar → AreStatesAfter t x states → IsViable t.grammar x
+begins t x states accepted after = after_viable t.grammar accepted.free accepted.productive x after.stack after.after
+
+-- where none does with one of some kinds, after those before it, none does with all of them
+pub not_with_all : (g h : Grammar) (x kinds : List Kind) (i : ℕ) (d : Kind) → h ≡ g → i < length kinds
+    → ¬ IsViable h (x ++ take i kinds ++ get_or kinds i d ∷ []) → ¬ IsViable g (x ++ kinds)
+not_with_all g h x kinds i d same lt none viable =
+    let k : Kind = get_or kinds i d in
+    let rest : List Kind = drop (suc i) kinds in
+    let split : kinds ≡ take i kinds ++ k ∷ rest = sym (take-append-drop i kinds) ∙ ap (λ l. take i kinds ++ l) (drop-cons kinds i d lt) in
+    let parts : x ++ kinds ≡ x ++ take i kinds ++ k ∷ [] ++ rest =
+    ap (λ l. x ++ l) split ∙ sym (append_assoc x (take i kinds) (k ∷ rest)) ∙ sym (append_assoc (x ++ take i kinds) (k ∷ []) rest) in
+    none (subst (λ g. IsViable g (x ++ take i kinds ++ k ∷ [])) (sym same) (viable_prefix g (x ++ take i kinds ++ k ∷ []) rest (subst (IsViable g) parts viable)))
 
 -- nothing is accepted before a kind
 pub no_accept : (t : Sets) (x : List Kind) (k : Kind) (states : List ℕ) (on : AreStatesOn t x k states) → HasMove t.grammar on.has.symbols (Some k) Accept → ⊥

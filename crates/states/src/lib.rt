@@ -1,10 +1,10 @@
 //! Stacks of the LR(1) machine by their states, without trees: to see what may follow some kinds,
 //! and how far others go on.
 //!
-//! `Pile::at` is the stack after some of the kinds of a parse; `read` reads one more, and
-//! `expected` says what may follow. `Stacks` has many stacks, by number: `push` gives the number
-//! of one with a state more, `read` that of the one after a kind, and `may_end` says whether the
-//! end may follow.
+//! `Pile::at` is the stack after some of the kinds of a parse; `read` reads one more, `read_all`
+//! several, and `expected` says what may follow. `Stacks` has many stacks, by number: `push` gives
+//! the number of one with a state more, `read` that of the one after a kind, and `may_end` says
+//! whether the end may follow.
 //!
 //! Words: in `Stacks` equal stacks have one number, and share what lies below; 0 is the stack of
 //! no kinds. A *move* is a shift, a reduction or an acceptance; `allow` says how many may be made

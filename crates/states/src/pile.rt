@@ -1,7 +1,8 @@
 //! The stack of the machine that has read some kinds.
 
-ghost use Rattle.std.specs.Prelude.{◌≡◌, ◌-◌, ◌<◌, ◌∷◌, ◌++◌, All, List, Option, [], Some, IfOk, OnOk, length, slice_index_or, take, true};
+ghost use Rattle.std.specs.Prelude.{◌≡◌, ◌-◌, ◌<◌, ◌≤◌, ◌∷◌, ◌++◌, All, List, Option, [], Some, IfOk, MatchBool, MatchOption, OnOk, false, length, slice_index_or, take, true};
 ghost use Rattle.definitions.specs.Items.{HasMove, Reduce as ReduceMove};
+ghost use Rattle.definitions.specs.Sentences.{IsViable};
 ghost use Rattle.definitions.specs.declared.Kind.{Kind as TokenKind};
 ghost use Rattle.definitions.specs.declared.Symbol.{Symbol};
 ghost use Rattle.tables.specs.Expected.{AreExpected};
@@ -13,7 +14,8 @@ use std::alloc::{AllocError, Global};
 use std::marker::Model;
 use tables::{Expected, Move, Tables};
 
-/// How many moves are made at most before a kind is read. No grammar calls for so many.
+/// How many moves are made at most before a kind is read; past them memory is refused. No grammar
+/// calls for so many.
 const MOST_MOVES: usize = usize::MAX;
 
 /// The states below and above the trees on the stack of a machine, and how many kinds each tree
@@ -27,6 +29,7 @@ pub struct Pile<'a> {
 
 impl<'a> Model for Pile<'a> {
     ghost use Rattle.std.specs.Prelude.{◌<◌, All, length};
+    ghost use Rattle.tables.specs.Tables.{IsAccepted};
     ghost use Rattle.states.specs.Piles.{Standing};
     ghost use Rattle.states.specs.Stacks.{IsReached};
 
@@ -37,7 +40,7 @@ impl<'a> Model for Pile<'a> {
       states = p.states.items;
     } };
 
-    ghost invariant = { λ p. (0 < length p.states.items)
+    ghost invariant = { λ p. IsAccepted p.tables.now.grammar × (0 < length p.states.items)
         × All (IsReached p.tables.now) p.states.items };
 }
 
@@ -88,8 +91,8 @@ impl<'a> Pile<'a> {
     /// doesn't have as many.
     fn take(&mut self, count: usize) -> Option<usize>
         ensures tables { self.new.tables ≡ self.old.tables }
-        ensures states { count < length self.old.states
-            → self.new.states ≡ take (length self.old.states - count) self.old.states }
+        ensures states { MatchOption result (length self.old.states ≤ count)
+            (λ _. self.new.states ≡ take (length self.old.states - count) self.old.states) }
     {
         let left = self.states.len().checked_sub(count)?;
         if left == 0 {
@@ -107,8 +110,8 @@ impl<'a> Pile<'a> {
         ensures reduced { (x : List TokenKind) (k : TokenKind)
             (on : AreStatesOn self.old.tables x k self.old.states)
             → HasMove self.old.tables.grammar on.has.symbols (Some k) (ReduceMove production)
-            → IfOk result (λ done. done ≡ true
-            → AreStatesOn self.old.tables x k self.new.states) }
+            → IfOk result (λ done. (done ≡ true)
+            × AreStatesOn self.old.tables x k self.new.states) }
     {
         let (symbol, size) = self.tables.production(production);
         let Some(kinds) = self.take(size) else {
@@ -128,6 +131,12 @@ impl<'a> Pile<'a> {
         ensures after { (x : List TokenKind) → AreStatesAfter self.old.tables x self.old.states
             → IfOk result (λ goes_on. goes_on ≡ true
             → AreStatesAfter self.old.tables (x ++ kind ∷ []) self.new.states) }
+        ensures goes_on { (x : List TokenKind)
+            → AreStatesAfter self.old.tables x self.old.states
+            → let g = self.old.tables.grammar in let more = x ++ kind ∷ [] in
+            IfOk result (λ goes_on. MatchBool goes_on (IsViable g more) (¬ IsViable g more)) }
+        ensures stays { (x : List TokenKind) → AreStatesAfter self.old.tables x self.old.states
+            → IfOk result (λ goes_on. goes_on ≡ false → self.new.states ≡ self.old.states) }
     {
         for _ in 0..MOST_MOVES {
             match self.tables.action(self.state(), Some(kind)) {
@@ -141,10 +150,32 @@ impl<'a> Pile<'a> {
                     }
                 }
                 // The end alone is accepted.
-                Some(Move::Accept) | None => return Ok(false),
+                Some(Move::Accept) => return Ok(false),
+                None => return Ok(false),
             }
         }
-        Ok(false)
+        Err(AllocError)
+    }
+
+    /// Reads kinds, one after the other, up to the first with which no sentence goes on. Whether
+    /// there is none.
+    pub fn read_all(&mut self, kinds: &[Kind]) -> Result<bool, AllocError>
+        ensures tables { self.new.tables ≡ self.old.tables }
+        ensures after { (x : List TokenKind) → AreStatesAfter self.old.tables x self.old.states
+            → IfOk result (λ go_on. go_on ≡ true
+            → AreStatesAfter self.old.tables (x ++ kinds.now) self.new.states) }
+        ensures go_on { (x : List TokenKind) → AreStatesAfter self.old.tables x self.old.states
+            → let g = self.old.tables.grammar in let all = x ++ kinds.now in
+            IfOk result (λ go_on. MatchBool go_on (IsViable g all) (¬ IsViable g all)) }
+    {
+        // The read opens the invariant.
+        let _tables = self.tables;
+        for kind in kinds {
+            if !self.read(*kind)? {
+                return Ok(false);
+            }
+        }
+        Ok(true)
     }
 
     /// What may follow, in file order, and then the end.

@@ -20,12 +20,12 @@ returns c =
     let at : AreStatesAfter t (take seam.copy copy) c.in-Some-2.pile.states =
     subst (λ o. IfSome o (λ p. AreStatesAfter t (take seam.copy copy) p.states)) c.in-Some-2.is (c.in_ok-pile.ensures.after copy c.requires) in
     let read = c.in_ok-read_all.ensures.after (take seam.copy copy) (subst (λ u. AreStatesAfter u (take seam.copy copy) c.in-Some-2.pile.states) (sym tables) at) c.if-not-branch.false in
-    let after : AreStatesAfter t x c.read_all.new.pile.states =
-    subst (λ u. AreStatesAfter u x c.read_all.new.pile.states) tables
-    (subst (λ l. AreStatesAfter c.in-Some-2.pile.tables (take seam.copy copy ++ l) c.read_all.new.pile.states) part read) in
+    let after : AreStatesAfter t x c.read_all.new.self.states =
+    subst (λ u. AreStatesAfter u x c.read_all.new.self.states) tables
+    (subst (λ l. AreStatesAfter c.in-Some-2.pile.tables (take seam.copy copy ++ l) c.read_all.new.self.states) part read) in
     let on = c.in_ok-read_all.ensures.tables ∙ tables in
     let given : AreExpected g x c.expected.result =
-    subst (λ u. AreExpected u.grammar x c.expected.result) on (c.expected.ensures x (subst (λ u. AreStatesAfter u x c.read_all.new.pile.states) (sym on) after)) in
+    subst (λ u. AreExpected u.grammar x c.expected.result) on (c.expected.ensures x (subst (λ u. AreStatesAfter u x c.read_all.new.self.states) (sym on) after)) in
     let are : AreExpected g x looks = subst (AreExpected g x) (sym c.in_ok-looks.ensures) given in
     let some : 0 < length looks = search rules in
     let kind : c.kind.result ≡ slice_get kinds c.args.fault = search rules in

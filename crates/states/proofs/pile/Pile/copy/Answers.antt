@@ -1,7 +1,8 @@
-use Rattle.states.proofs.Common.{◌<◌, ◌∙◌, All, length, subst, sym}
+use Rattle.states.proofs.Common.{◌<◌, ◌∙◌, All, length, subst, sym, IsAccepted}
 use Rattle.states.specs.Stacks.{IsReached}
 use Rattle.states.proofs.pile.Pile.copy.Goals as goal
 
 pub invariant_of-result : goal.invariant_of-result
 invariant_of-result c =
-    subst (λ l. (0 < length l) × All (IsReached c.self.inside.tables.now) l) (sym (c.in_ok-from_slice.ensures.items ∙ c.deref.ensures.value)) c.self.invariant
+    let t = c.self.inside.tables.now in
+    subst (λ l. IsAccepted t.grammar × (0 < length l) × All (IsReached t) l) (sym (c.in_ok-from_slice.ensures.items ∙ c.deref.ensures.value)) c.self.invariant

@@ -2,7 +2,7 @@ use Rattle.completion.proofs.Common.{◌-◌, ◌≡◌, ◌≤◌, ◌∙◌, L
 use Rattle.std.proofs.Common.{◌^◌}
 use Rattle.lexer.proofs.SignificantKinds.{length-kinds}
 use Rattle.lexer.proofs.Totals.{total_significant}
-use Rattle.completion.proofs.machine.significant_before.Goals as goal
+use Rattle.completion.proofs.expected.significant_before.Goals as goal
 
 pub returns : goal.returns
 returns c =

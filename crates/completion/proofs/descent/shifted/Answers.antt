@@ -1,6 +1,0 @@
-use Rattle.completion.proofs.Common.{Some, ap}
-use Rattle.completion.proofs.descent.shifted.Goals as goal
-
-pub returns-in-Some-Shift : goal.returns-in-Some-Shift
-returns-in-Some-Shift c prefix a state kind =
-    c.in-Some-Shift.ensures.shifts prefix a c.in-Some-Shift.next state (ap Some kind) (ap Some c.in-Some-Shift.field-0-is)
