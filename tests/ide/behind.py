@@ -135,14 +135,21 @@ class Texts:
         return there, other
 
 
-def last_offset(text: str, diagnostics: Sequence[Message], edits: Sequence[Edit]) -> int:
-    """Behind which there is no fault of a text, nor anything that mends it."""
+def last_offset(
+    text: str,
+    diagnostics: Sequence[Message],
+    edits: Sequence[Edit],
+    tokens: Sequence[Tuple[str, Span]],
+) -> int:
+    """Behind which there is no fault of a text, nor anything that mends it. A place in front of a
+    token is in front of what is put in there, too."""
     ends = [offsets(text, it["range"])[1] for it in diagnostics]
-    undone = len(text)
-    for number, (start, end, new) in enumerate(edits):
-        tail = after(edits[:number], len(text)) - end
-        undone = min(undone, tail)
-    return max(*ends, len(text) - undone)
+    starts = [span[0] for _, span in tokens]
+    for number, (_, end, new) in enumerate(edits):
+        end += len(text) - after(edits[:number], len(text))
+        at_token = min((start for start in starts if end <= start), default=len(text))
+        ends.append(at_token if new else end)
+    return max(ends)
 
 
 def words_behind(text: str, last: int, tokens: Sequence[Tuple[str, Span]]) -> List[int]:
@@ -180,8 +187,8 @@ class Behind:
         made = whole(client, faulty) if diagnostics else None
         if made:
             texts = Texts(client, faulty, *made)
-            last = last_offset(faulty, diagnostics, texts.edits)
             tokens = tokens_of(client, URI, faulty)
+            last = last_offset(faulty, diagnostics, texts.edits, tokens)
             behind = [span for _, span in tokens if span[0] > last]
             signs = [span[0] for span in behind if faulty[slice(*span)].lower() in BRACKETS]
             self.check("hovers", texts, [start for start, _ in behind])

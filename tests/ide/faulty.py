@@ -53,6 +53,15 @@ BEHIND: List[Row] = [
             (0, 50, 'unexpected "3"; expected ":"', 'if "," is put in at 1:26'),
         ],
     ),
+    # Of what is as cheap, leaving out a separator comes last.
+    (
+        "json",
+        "[1,, " + "2, " * 20 + "3 4]",
+        [
+            (0, 3, 'unexpected ","; expected', ""),
+            (0, 67, 'unexpected "4"; expected "," or "]"', "if a number is put in at 1:4"),
+        ],
+    ),
     (
         "lua",
         "local x = \nlocal y = (1\nprint(y)\nlocal z = 1\nlocal a = 2\nlocal c = 3\n"

@@ -18,6 +18,8 @@ NOT_RUN = (
     "completion",
     "editor_replies",
     "faults",
+    "flat_trees",
+    "forests",
     "grammar_reports",
     "hover",
     "ide",
@@ -29,8 +31,10 @@ NOT_RUN = (
     "reopening",
     "serving",
     "settings",
+    "settings_files",
     "shown",
     "states",
+    "token_rows",
     "wording",
 )
 

@@ -14,7 +14,7 @@ use std::mem::replace;
 const MOST_DEPTH: usize = 64;
 
 /// A position (LSP 3.17, "Position").
-fn position_value(alloc: Global, position: Position) -> Result<Value, AllocError> {
+pub(crate) fn position_value(alloc: Global, position: Position) -> Result<Value, AllocError> {
     json!(in alloc; {"character": position.character, "line": position.line})
 }
 

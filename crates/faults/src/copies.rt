@@ -7,14 +7,15 @@ ghost use Rattle.lexer.specs.Rescans.{significant_kinds};
 ghost use Rattle.mending.specs.Mendings.{IsMendingOf};
 
 use docs::{Doc, Language, Significant};
-use mending::Mending;
+use mending::{Mending, Rank};
 use parser::Verdict;
 use settings::RuleText;
 use std::alloc::{AllocError, Global};
 
 /// The copy of a document's kinds in which its faults are mended; none where it has no fault. Of
-/// repairs that are as good, one comes first that puts in what closes or separates. `texts` are
-/// those of the language's rules. Refuses for memory alone.
+/// repairs that are as good, one comes first that puts in what closes or separates, and one comes
+/// last that leaves that out, or what opens. `texts` are those of the language's rules. Refuses
+/// for memory alone.
 pub fn mended(
     alloc: Global,
     language: &Language,
@@ -33,10 +34,12 @@ pub fn mended(
     Ok(Some(Mending::whole(alloc, language.tables(), &ranks, &kinds)?))
 }
 
-/// The copy of a document's kinds that `mended` makes, made of one of the same language, as that
-/// of the document before some changes. Where these are small, so is what it costs: where a
-/// document has no fault, keep the last copy for its next one. `texts` are those of the language's
-/// rules. Refuses for memory alone; then the copy is gone.
+/// The copy of a document's kinds that `mended` makes, made out of another copy of the same
+/// language, such as that of the document before some changes. After a change of a few tokens a
+/// call costs a look at each kind, and besides what `mended` costs near the change; after one that
+/// alters what is open behind it, what `mended` costs. So keep the last copy, also while the
+/// document has no fault. `texts` are those of the language's rules. Refuses for memory alone;
+/// then the copy is gone.
 pub fn followed(
     alloc: Global,
     language: &Language,
@@ -55,8 +58,8 @@ pub fn followed(
 }
 
 /// The ranks of rules with these texts: of two kinds that mend a fault as well, the one of the
-/// lower rank is put in. Refuses for memory alone.
-pub fn ranks(alloc: Global, texts: &[Option<RuleText>]) -> Result<Vec<u8>, AllocError>
+/// lower rank is put in, or left out. Refuses for memory alone.
+pub fn ranks(alloc: Global, texts: &[Option<RuleText>]) -> Result<Vec<Rank>, AllocError>
     ensures { IfOk result (λ ranks. length ranks.items ≡ length texts.now) }
 {
     let mut ranks = Vec::with_capacity(alloc, texts.len())?;
@@ -69,20 +72,43 @@ pub fn ranks(alloc: Global, texts: &[Option<RuleText>]) -> Result<Vec<u8>, Alloc
     Ok(ranks)
 }
 
+/// The rank of leaving out what doesn't bear on what stands around it.
+const LOOSE: u8 = 1;
+
+/// The rank of leaving out what closes, separates or opens: without it, what stands around it is
+/// part of something else. No four changes that leave none out have a higher sum.
+const TEARING: u8 = 17;
+
 /// The rank of what closes or separates.
-const CLOSING: u8 = 0;
+const CLOSING: Rank = Rank {
+    put_in: 0,
+    leave_out: TEARING,
+};
 
 /// The rank of other signs.
-const SIGN: u8 = 1;
+const SIGN: Rank = Rank {
+    put_in: 1,
+    leave_out: LOOSE,
+};
 
 /// The rank of a name, a number, and whatever else has no text of its own.
-const NAME: u8 = 2;
+const NAME: Rank = Rank {
+    put_in: 2,
+    leave_out: LOOSE,
+};
 
 /// The rank of words.
-const WORD: u8 = 3;
+const WORD: Rank = Rank {
+    put_in: 3,
+    leave_out: LOOSE,
+};
 
-/// The rank of what opens.
-const OPENING: u8 = 4;
+/// The rank of what opens. Putting it in comes after all else: then what closes has to be put in
+/// too, or one that is too many is taken to close it.
+const OPENING: Rank = Rank {
+    put_in: TEARING + 1,
+    leave_out: TEARING,
+};
 
 /// Whether a text closes or separates, by a sign.
 pub(crate) fn closes(text: &str) -> bool {
@@ -90,7 +116,7 @@ pub(crate) fn closes(text: &str) -> bool {
 }
 
 /// The rank of a rule of this text.
-fn rank(text: &str) -> u8 {
+fn rank(text: &str) -> Rank {
     match text {
         "end" => CLOSING,
         _ if closes(text) => CLOSING,

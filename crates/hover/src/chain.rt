@@ -1,7 +1,7 @@
 //! The nodes around a token, as a hover names them.
 
 use crate::markup::Page;
-use crate::path::Forest;
+use forests::Forest;
 use grammar::Grammar;
 use std::alloc::{AllocError, Global};
 

@@ -5,12 +5,11 @@ ghost use Rattle.docs.specs.Docs.{IsCurrent};
 ghost use Rattle.hover.specs.Ranges.{IsRangeAt};
 
 use crate::chain::Chain;
-use crate::copies::Numbers;
 use crate::markup::{Markup, Page};
-use crate::path::Forest;
 use crate::spans::{Fault, Standing, fault_at, is_behind_fault, token_at};
 use definitions::{Position, Range};
 use docs::{Doc, Language};
+use forests::{Forest, Numbers};
 use grammar::{Grammar, Kind};
 use mending::Mending;
 use settings::{Settings, TOKEN_TYPES};

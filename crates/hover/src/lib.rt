@@ -31,12 +31,10 @@
 #![tactic(auto)]
 
 mod chain;
-mod copies;
 mod hovers;
 mod markup;
 mod pairs;
 mod partners;
-mod path;
 mod spans;
 
 pub use hovers::{HoverText, hover};

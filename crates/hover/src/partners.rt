@@ -3,12 +3,11 @@
 ghost use Rattle.std.specs.Prelude.{◌<◌, ◌≤◌, IfOk, IfSome, length};
 ghost use Rattle.hover.specs.Ranges.{AreBrackets};
 
-use crate::copies::Numbers;
 use crate::pairs::Pairs;
-use crate::path::{Branch, Forest};
 use crate::spans::Span;
 use definitions::{Kind, Position, Range};
 use docs::{Doc, Language};
+use forests::{Branch, Forest, Numbers};
 use lexer::MoreThan;
 use mending::Mending;
 use std::alloc::{AllocError, Global};

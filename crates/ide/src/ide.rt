@@ -87,8 +87,11 @@ fn needs_copy(question: &Question) -> bool {
         | Question::Offers(_)
         | Question::Hover(_)
         | Question::Brackets(_)
-        | Question::Fixes(_) => true,
-        Question::Colours | Question::Changes(_) | Question::Lines(..) => false,
+        | Question::Fixes(_)
+        | Question::Nodes(..) => true,
+        Question::Colours | Question::Changes(_) | Question::Lines(..) | Question::Rows(..) => {
+            false
+        }
     }
 }
 

@@ -4,7 +4,7 @@ ghost use Rattle.docs.specs.Docs.{IsCurrent};
 
 use definitions::Unit;
 use docs::{Doc, Language};
-use settings::{Settings, read};
+use settings_files::{Settings, read};
 use std::alloc::Global;
 use std::process::Abort;
 

@@ -20,4 +20,4 @@ mod offers;
 #[cfg(test)]
 mod outlines;
 #[cfg(test)]
-mod settings_files;
+mod settings_read;

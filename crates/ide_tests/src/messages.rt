@@ -2,7 +2,7 @@
 
 use crate::languages::notes;
 use grammar::Grammar;
-use settings::{Settings, read};
+use settings_files::{Settings, read};
 use std::alloc::Global;
 use std::process::Abort;
 use wording::{Found, every, message, related};

@@ -3,7 +3,7 @@
 use crate::languages::NOTES;
 use completion::{Offers, RuleText, offers_at, texts};
 use docs::{Doc, Language, Unit};
-use settings::read;
+use settings_files::read;
 use std::alloc::Global;
 use std::process::Abort;
 use worked::SUMS;

@@ -6,7 +6,8 @@ use completion::texts;
 use docs::{Language, LoadFault};
 use grammar_reports::{GrammarReport, LinePart, report};
 use ide::{Shown, Written};
-use settings::{Settings, SettingsFault, TOKEN_TYPES, grammar_of, guess, read};
+use settings::{Settings, TOKEN_TYPES, guess};
+use settings_files::{SettingsFault, grammar_of, read};
 use std::alloc::{AllocError, Global};
 use std::io::ErrorKind;
 

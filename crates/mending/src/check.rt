@@ -132,7 +132,8 @@ fn is_fault(kind: Option<Kind>, looks: &[Option<usize>]) -> bool
 }
 
 impl Mending {
-    /// What may stand at a fault, if there is one behind these kinds from a place on.
+    /// What may follow the kinds from a place on up to number `fault`, if they go on there and the
+    /// kind of this number, or the end, doesn't.
     fn fault_behind(
         &self,
         alloc: Global,

@@ -11,6 +11,7 @@ use crate::mending::Mending;
 use crate::pass::{Passed, Plan};
 use crate::repair::Repair;
 use definitions::Kind;
+use remedies::Rank;
 use std::alloc::{AllocError, Global};
 use std::mem::replace;
 use tables::Tables;
@@ -102,7 +103,7 @@ impl Mending {
         &mut self,
         alloc: Global,
         tables: &Tables,
-        ranks: &[u8],
+        ranks: &[Rank],
         kinds: Vec<Kind>,
     ) -> Result<bool, AllocError>
         requires { HasParse tables.now self.old }
@@ -131,7 +132,7 @@ impl Mending {
         mut self,
         alloc: Global,
         tables: &Tables,
-        ranks: &[u8],
+        ranks: &[Rank],
         kinds: &K,
     ) -> Result<Mending, AllocError>
         requires { (old : List TokenKind) × IsMendingOf tables.now old self }

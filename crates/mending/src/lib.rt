@@ -7,7 +7,8 @@
 //!
 //! Words: a *repair* stands at the first fault of the copy as those before it have left it, and is
 //! a list of *changes*: a kind is put in, left out, or stays between others. The *rank* of a rule
-//! says what is put in first; a closing bracket or a separator should have a low one.
+//! says what is put in or left out first: a closing bracket or a separator should have a low one
+//! of putting it in, and brackets and separators a high one of leaving them out.
 //!
 //! A repair is what `remedies` finds at its fault; no kind is changed twice.
 //!
@@ -16,12 +17,12 @@
 //! besides, `whole` costs a parse of the copy. After an edit of a few kinds `follow` costs what
 //! `whole` costs near it, the ways to the repairs, and a look at each kind; where the edit changes
 //! what is open behind it, or the copy is no sentence, it costs what `whole` does. In the example
-//! `tables` are those of the grammar file in README.md.
+//! `tables` are those of the grammar file in README.md, and `ranks` are those of its rules.
 //!
 //! ```
 //! let kinds = [Kind::Rule(2), Kind::Rule(0)];
 //! let listed = Listed { kinds: &kinds };
-//! let mended = Mending::whole(alloc, tables, &[2, 0, 3, 0], &listed).ok()?;
+//! let mended = Mending::whole(alloc, tables, ranks, &listed).ok()?;
 //! let repair = mended.repairs().first()?;
 //! println!(rt; "at {}: {:?}", repair.fault, repair.changes).ok()
 //! // at 2: [PutIn(3)]
@@ -41,6 +42,6 @@ mod walk;
 
 pub use listed::Listed;
 pub use mending::Mending;
-pub use remedies::Change;
+pub use remedies::{Change, Rank};
 pub use repair::Repair;
 pub use walk::MOST_FAULTS;

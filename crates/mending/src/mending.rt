@@ -15,7 +15,7 @@ use crate::repair::Repair;
 use crate::walk::{Mended, mend_all};
 use definitions::{Kind, KindSplice};
 use parser::{Parse, Verdict};
-use remedies::Origins;
+use remedies::{Origins, Rank};
 use std::alloc::{AllocError, Global};
 use tables::Tables;
 use trees::{Kinds, NodeId, Store};
@@ -37,13 +37,13 @@ pub struct Mending {
 impl Mending {
     /// A copy of the kinds that is mended fault after fault, until it is a sentence, nothing is
     /// found that mends it, or 256 faults are mended. Of what mends a fault as cheaply and lets as
-    /// many kinds go on, what has the lowest `ranks` is taken; a rule without one comes last.
-    /// Refuses for memory alone.
+    /// many kinds go on, what has the lowest sum of `ranks` is taken; a rule without one is put in
+    /// last. Refuses for memory alone.
     #[tactic(auto, using(crate::proofs::Mended::unrepaired))]
     pub fn whole<K: Kinds>(
         alloc: Global,
         tables: &Tables,
-        ranks: &[u8],
+        ranks: &[Rank],
         kinds: &K,
     ) -> Result<Mending, AllocError>
         ensures mended { IfOk result (IsMendingOf tables.now (K.kinds kinds.now)) }
@@ -56,8 +56,7 @@ impl Mending {
         if mending.settle(alloc, tables, repairs)? {
             return Ok(mending);
         }
-        let unmended = Mending::unmended(alloc, tables, mending.origin)?;
-        Ok(unmended)
+        Mending::unmended(alloc, tables, mending.origin)
     }
 
     /// A copy, whose repairs aren't known, of what is mended.
@@ -87,8 +86,7 @@ impl Mending {
         ensures { IfOk result (IsMendingOf tables.now origin.items) }
     {
         let copy = Vec::from_slice(alloc, &origin)?;
-        let mending = Mending::with_copy(alloc, tables, origin, copy)?;
-        Ok(mending)
+        Mending::with_copy(alloc, tables, origin, copy)
     }
 
     /// Puts kinds in the place of those from number `from` up to number `to`.

@@ -9,7 +9,7 @@ use crate::repair::Repair;
 use crate::seam::Seam;
 use crate::walk::{CAREFUL, MOST_FAULTS, Step, Walk};
 use definitions::Kind;
-use remedies::{Change, LOOK};
+use remedies::{Change, LOOK, Rank};
 use states::Pile;
 use std::alloc::{AllocError, Global};
 use tables::Tables;
@@ -137,7 +137,7 @@ impl Mending {
         &'a self,
         alloc: Global,
         tables: &'a Tables,
-        ranks: &'a [u8],
+        ranks: &'a [Rank],
         kinds: &'a [Kind],
         plan: Plan,
     ) -> Result<Option<Passed>, AllocError>

@@ -5,7 +5,7 @@ ghost use Rattle.std.specs.Prelude.{◌≡◌, IfOk};
 use crate::repair::Repair;
 use crate::seam::Seam;
 use definitions::Kind;
-use remedies::{Change, Fault, Remedy};
+use remedies::{Change, Fault, Rank, Remedy};
 use states::Pile;
 use std::alloc::{AllocError, Global};
 use tables::{Expected, Tables};
@@ -62,7 +62,7 @@ pub(crate) enum Step {
 #[derive(Drop)]
 pub(crate) struct Walk<'a> {
     alloc: Global,
-    ranks: &'a [u8],
+    ranks: &'a [Rank],
     /// The kinds that are mended.
     kinds: &'a [Kind],
     /// The stack where the way begins.
@@ -87,7 +87,7 @@ impl<'a> Walk<'a> {
     /// the last of which ends at `done`.
     pub(crate) fn new(
         alloc: Global,
-        ranks: &'a [u8],
+        ranks: &'a [Rank],
         kinds: &'a [Kind],
         base: Pile<'a>,
         start: Seam,
@@ -268,7 +268,7 @@ pub(crate) struct Mended {
 pub(crate) fn mend_all(
     alloc: Global,
     tables: &Tables,
-    ranks: &[u8],
+    ranks: &[Rank],
     kinds: &[Kind],
 ) -> Result<Mended, AllocError> {
     let begin = Seam { copy: 0, kind: 0 };

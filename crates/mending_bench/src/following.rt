@@ -7,7 +7,7 @@ ghost use Rattle.mending.specs.Mendings.{IsMendingOf};
 use crate::planting::Planter;
 use anyhow::Result;
 use definitions::Kind;
-use mending::{Listed, Mending};
+use mending::{Listed, Mending, Rank};
 use rand_pcg::Pcg32;
 use std::time::Instant;
 
@@ -16,7 +16,7 @@ use std::time::Instant;
 pub struct Following<'a> {
     pub rt: &'a HostRuntime,
     pub planter: Planter<'a>,
-    pub ranks: &'a [u8],
+    pub ranks: &'a [Rank],
     /// How many bytes the text has.
     pub bytes: usize,
 }

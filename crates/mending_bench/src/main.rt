@@ -14,7 +14,7 @@ use anyhow::{Result, bail};
 use definitions::{Kind, Unit};
 use docs::{Doc, Language};
 use following::Following;
-use mending::{Listed, Mending};
+use mending::{Listed, Mending, Rank};
 use planting::{Planter, is_faulty};
 use rand_pcg::Pcg32;
 use ranks::ranks;
@@ -109,7 +109,7 @@ struct Sample<'a> {
 struct Bench<'a> {
     rt: &'a HostRuntime,
     language: &'a Language,
-    ranks: &'a [u8],
+    ranks: &'a [Rank],
     planter: Planter<'a>,
     request: Request,
 }

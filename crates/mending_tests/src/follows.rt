@@ -4,9 +4,10 @@ ghost use Rattle.std.specs.Prelude.{List};
 ghost use Rattle.definitions.specs.declared.Kind.{Kind as TokenKind};
 ghost use Rattle.mending.specs.Mendings.{IsMendingOf};
 
+use crate::ranks::{CLOSING, NAME, OPENING, SIGN, WORD};
 use definitions::Kind;
 use grammar::Grammar;
-use mending::{Listed, Mending};
+use mending::{Listed, Mending, Rank};
 use std::alloc::Global;
 use std::process::Abort;
 use tables::Tables;
@@ -81,7 +82,7 @@ impl Random {
 #[derive(Clone, Copy)]
 struct Tried<'a> {
     tables: &'a Tables,
-    ranks: &'a [u8],
+    ranks: &'a [Rank],
     /// What sentences are made of.
     pieces: &'a [&'a [usize]],
     /// The rule between two of these, if there is one.
@@ -205,7 +206,7 @@ fn copies_of_sums_follow_edits(rt: HostRuntime) {
     let tables = Tables::build(rt.alloc(), &grammar).expect(&rt, "tables");
     let tried = Tried {
         tables: &tables,
-        ranks: &[2, 0, 3, 0],
+        ranks: &[NAME, SIGN, OPENING, CLOSING],
         pieces: &[&[0], &[2, 0, 1, 0, 3], &[2, 2, 0, 3, 1, 0, 3]],
         between: Some(1),
     };
@@ -218,7 +219,7 @@ fn copies_of_lists_follow_edits(rt: HostRuntime) {
     let tables = Tables::build(rt.alloc(), &grammar).expect(&rt, "tables");
     let tried = Tried {
         tables: &tables,
-        ranks: &[2, 2],
+        ranks: &[NAME, NAME],
         pieces: &[&[0], &[1]],
         between: None,
     };
@@ -231,7 +232,7 @@ fn copies_of_chains_follow_edits(rt: HostRuntime) {
     let tables = Tables::build(rt.alloc(), &grammar).expect(&rt, "tables");
     let tried = Tried {
         tables: &tables,
-        ranks: &[2, 0, 3, 0],
+        ranks: &[NAME, CLOSING, OPENING, CLOSING],
         pieces: &[&[0], &[2, 0, 1, 0, 3], &[2, 3]],
         between: Some(1),
     };
@@ -244,7 +245,10 @@ fn copies_of_blocks_follow_edits(rt: HostRuntime) {
     let tables = Tables::build(rt.alloc(), &grammar).expect(&rt, "tables");
     let tried = Tried {
         tables: &tables,
-        ranks: &[0, 0, 0, 0, 4, 4, 1, 1, 3, 3, 3, 2, 2],
+        ranks: &[
+            CLOSING, CLOSING, CLOSING, CLOSING, OPENING, OPENING, SIGN, SIGN, WORD, WORD, WORD,
+            NAME, NAME,
+        ],
         pieces: &[
             &[8, 11, 6, 12, 7, 11, 0],
             &[11, 5, 11, 1, 12, 2, 0],

@@ -5,3 +5,5 @@
 mod follows;
 #[cfg(test)]
 mod mendings;
+#[cfg(test)]
+mod ranks;

@@ -1,8 +1,9 @@
 //! Mended copies of worked kinds of sums. `bench/mending` has real texts.
 
+use crate::ranks::{CLOSING, NAME, OPENING, SIGN, WORD};
 use definitions::Kind;
 use grammar::Grammar;
-use mending::{Change, Listed, Mending};
+use mending::{Change, Listed, Mending, Rank};
 use std::alloc::Global;
 use std::process::Abort;
 use tables::Tables;
@@ -16,23 +17,40 @@ const LP: Kind = Kind::Rule(2);
 
 const RP: Kind = Kind::Rule(3);
 
+/// The rank of what is put in first, and left out as anything else is.
+const FIRST: Rank = Rank {
+    put_in: 0,
+    leave_out: 1,
+};
+
 /// A sign and a closing parenthesis are put in rather than a number, and that rather than an
-/// opening one.
-const RANKS: &[u8] = &[2, 0, 3, 0];
+/// opening one; each is left out as any other.
+const RANKS: &[Rank] = &[NAME, FIRST, WORD, FIRST];
 
 /// Kinds, the number of the fault that is mended, how it is, and the copy.
 type Row<'a> = (&'a [Kind], usize, &'a [Change], &'a [Kind]);
 
-/// The kinds have one fault, which is mended so, and the copy is whole.
-fn assert_mended(rt: &impl Abort, alloc: Global, tables: &Tables, row: &Row<'_>) {
+/// The kinds have one fault, which is mended so by these ranks, and the copy is whole.
+fn assert_mended_by(
+    rt: &impl Abort,
+    alloc: Global,
+    tables: &Tables,
+    ranks: &[Rank],
+    row: &Row<'_>,
+) {
     let (kinds, fault, changes, copy) = *row;
-    let mended = Mending::whole(alloc, tables, RANKS, &Listed { kinds }).expect(rt, "a mending");
+    let mended = Mending::whole(alloc, tables, ranks, &Listed { kinds }).expect(rt, "a mending");
     assert!(rt; mended.repairs().len() == 1);
     let repair = &mended.repairs()[0];
     assert!(rt; (repair.fault, repair.at, repair.from) == (fault, fault, fault));
     assert!(rt; repair.changes.as_slice() == changes);
     assert!(rt; mended.kinds() == copy);
     assert!(rt; mended.tree().is_some());
+}
+
+/// The kinds have one fault, which is mended so, and the copy is whole.
+fn assert_mended(rt: &impl Abort, alloc: Global, tables: &Tables, row: &Row<'_>) {
+    assert_mended_by(rt, alloc, tables, RANKS, row);
 }
 
 fn sums(rt: &impl Abort, alloc: Global) -> Tables {
@@ -64,6 +82,46 @@ fn one_fault_is_mended(rt: HostRuntime) {
     let tables = sums(&rt, rt.alloc());
     for row in &rows {
         assert_mended(&rt, rt.alloc(), &tables, row);
+    }
+}
+
+#[test]
+fn brackets_and_separators_are_left_out_last(rt: HostRuntime) {
+    let signs = [NAME, SIGN, OPENING, CLOSING];
+    let separators = [NAME, CLOSING, OPENING, CLOSING];
+    let put_in = |rule| Change::PutIn(rule);
+    let rows: [(&[Rank], Row<'_>); 3] = [
+        (
+            &separators,
+            (
+                &[NUM, PLUS, PLUS, NUM],
+                2,
+                &[put_in(0)],
+                &[NUM, PLUS, NUM, PLUS, NUM],
+            ),
+        ),
+        (
+            &signs,
+            (
+                &[LP, NUM, RP, NUM, RP],
+                3,
+                &[put_in(1), put_in(2)],
+                &[LP, NUM, RP, PLUS, LP, NUM, RP],
+            ),
+        ),
+        (
+            &signs,
+            (
+                &[NUM, LP, RP],
+                1,
+                &[put_in(1), Change::Keep, put_in(0)],
+                &[NUM, PLUS, LP, NUM, RP],
+            ),
+        ),
+    ];
+    let tables = sums(&rt, rt.alloc());
+    for (ranks, row) in &rows {
+        assert_mended_by(&rt, rt.alloc(), &tables, ranks, row);
     }
 }
 

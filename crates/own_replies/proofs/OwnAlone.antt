@@ -1,12 +1,12 @@
 -- Nothing of a reply to a request that the core doesn't know is the core's.
-use Rattle.std.proofs.Common.{◌≡◌, ℕ, List, [], ap, Option, Some, None}
+use Rattle.std.proofs.Common.{◌≡◌, ◌⊎◌, ℕ, List, [], ap, inl, inr, Option, Some, None}
 use Rattle.std.specs.FinMap.{get}
 use Rattle.readings.specs.Texts.{OpenDocument}
 use Rattle.replies.specs.Ids.{Ident}
 use Rattle.sessions.specs.Documents.{DocumentState, is_lost, is_open}
-use Rattle.questions.specs.Asked.{Asked, Question, about, misfit, its_brackets, its_changes, its_colours, its_fixes, its_hover, its_lines, its_offers, its_outline}
+use Rattle.questions.specs.Asked.{Asked, Question, about, misfit, its_brackets, its_changes, its_colours, its_fixes, its_hover, its_lines, its_nodes, its_offers, its_outline, its_rows}
 use Rattle.editor_replies.specs.Sent.{Message, core_part}
-use Rattle.own_replies.specs.Replies.{AreChanges, IsReply, IsReplyAbout, IsReplyOf, since}
+use Rattle.own_replies.specs.Replies.{AreChanges, IsReply, IsReplyAbout, IsReplyOf, IsSomeResultIfFit, since}
 use Rattle.own_replies.specs.States.{IdeState}
 
 -- what is true of a reply to a request that is answered here: nothing of it is the core's, and the core stays as it was
@@ -16,6 +16,10 @@ IsOwn old message new = (core_part message ≡ []) × (new.core ≡ old.core)
 of_changes : (id : Ident) (name : List ℕ) (before : Option (List ℕ)) (numbers : List ℕ) (message : Message) → AreChanges id name before numbers message → core_part message ≡ []
 of_changes id name None numbers message r = ap core_part r
 of_changes id name (Some before) numbers message r = ap core_part r.2
+
+of_fit : (id : Ident) (message : Message) → IsSomeResultIfFit id message → core_part message ≡ []
+of_fit id message (inl r) = ap core_part r.1
+of_fit id message (inr r) = ap core_part r
 
 of_open : (old : IdeState) (id : Ident) (uri : List ℕ) (d : OpenDocument) (question : Question) (message : Message) (new : IdeState)
     → IsReplyOf old id uri d question message new → IsOwn old message new
@@ -27,6 +31,8 @@ of_open old id uri d its_outline message new r = (ap core_part r.0.1, ap (λ (s 
 of_open old id uri d (its_hover place) message new r = (ap core_part r.0.1, ap (λ (s : IdeState). s.core) r.1)
 of_open old id uri d (its_brackets place) message new r = (ap core_part r.0.1, ap (λ (s : IdeState). s.core) r.1)
 of_open old id uri d (its_fixes range) message new r = (ap core_part r.0.1, ap (λ (s : IdeState). s.core) r.1)
+of_open old id uri d (its_rows first end) message new r = (ap core_part r.0.1, ap (λ (s : IdeState). s.core) r.1)
+of_open old id uri d (its_nodes place named) message new r = (of_fit id message r.0, ap (λ (s : IdeState). s.core) r.1)
 
 of_document : (old : IdeState) (id : Ident) (uri : List ℕ) (document : Option DocumentState) (question : Question) (message : Message) (new : IdeState)
     → IsReplyAbout old id uri document question message new → IsOwn old message new

@@ -1,5 +1,5 @@
 -- What the editor's server replies to the requests that the core doesn't know.
-use Rattle.std.specs.Prelude.{◌≡◌, ◌+◌, ◌&&◌, ℕ, List, ◌++◌, take, drop, map, decimal, if◌then◌else◌}
+use Rattle.std.specs.Prelude.{◌≡◌, ◌⊎◌, ◌+◌, ◌&&◌, ℕ, List, ◌++◌, take, drop, map, decimal, if◌then◌else◌}
 use Rattle.std.specs.Prelude.{Option, Some, None}
 use Rattle.std.specs.FinMap.{get}
 use Rattle.std.specs.Str.{bytes_eq}
@@ -20,7 +20,7 @@ use Rattle.replies.specs.Replies.{error_reply}
 use Rattle.replies.specs.declared.reply.Refusal.TheVariants.{DocumentLost, DocumentNotOpen, InvalidParams}
 use Rattle.sessions.specs.Documents.{DocumentState, is_lost, is_open}
 use Rattle.questions.specs.Asked.{Asked, Question, about, its_brackets, its_changes, its_colours, its_fixes, its_hover, its_lines}
-use Rattle.questions.specs.Asked.{its_offers, its_outline, misfit}
+use Rattle.questions.specs.Asked.{its_nodes, its_offers, its_outline, its_rows, misfit}
 use Rattle.editor_replies.specs.Sent.{Message, NumbersEdit, OfferData, changes, colours, offers, own, some_result}
 use Rattle.own_replies.specs.States.{IdeState, Told, next}
 
@@ -90,9 +90,13 @@ AreOffersAt old id d place message =
 abbrev pub IsSomeResult : Ident → Message → Type 0
 IsSomeResult id message = (value : Data) × (message ≡ some_result id value)
 
+-- `IsSomeResultIfFit id message`: a result, whichever, or that the parameters don't fit
+abbrev pub IsSomeResultIfFit : Ident → Message → Type 0
+IsSomeResultIfFit id message = IsSomeResult id message ⊎ (message ≡ own (error_reply (Some id) InvalidParams))
+
 -- `IsReplyOf old id uri d question message new`: what is replied about the open document of a URI, and what stays of it: its colours,
--- what has changed of them, or those of some lines; what may follow at a position; or some outline, text about a position, brackets, or
--- fixes
+-- what has changed of them, or those of some lines; what may follow at a position; or some outline, text about a position, brackets, fixes,
+-- rows of tokens, or nodes, if those that are named are a list of ways
 abbrev pub IsReplyOf : IdeState → Ident → List ℕ → OpenDocument → Question → Message → IdeState → Type 0
 IsReplyOf old id uri d its_colours message new =
     (numbers : List ℕ) × AreColours old d numbers × (message ≡ colours id (Some (next_name old)) numbers)
@@ -107,6 +111,8 @@ IsReplyOf old id uri d its_outline message new = IsSomeResult id message × (new
 IsReplyOf old id uri d (its_hover place) message new = IsSomeResult id message × (new ≡ old)
 IsReplyOf old id uri d (its_brackets place) message new = IsSomeResult id message × (new ≡ old)
 IsReplyOf old id uri d (its_fixes range) message new = IsSomeResult id message × (new ≡ old)
+IsReplyOf old id uri d (its_rows first end) message new = IsSomeResult id message × (new ≡ old)
+IsReplyOf old id uri d (its_nodes place named) message new = IsSomeResultIfFit id message × (new ≡ old)
 
 -- `IsReplyAbout old id uri document question message new`: what is replied about a document: that it isn't open; or why it is lost;
 -- or, where it is open, what `IsReplyOf` has

@@ -8,17 +8,21 @@ ghost use Rattle.rpc.specs.Replies.{error_reply};
 ghost use Rattle.server.specs.States.{language_of};
 ghost use Rattle.editor_replies.specs.Sent.{colours, message_view, own};
 ghost use Rattle.questions.specs.Asked.{asked_view, question_view};
-ghost use Rattle.own_replies.specs.Replies.{next_name, since, tells, AreChanges, AreOffersAt, AreRepairsOf, IsReply, IsReplyAbout, IsReplyOf};
+ghost use Rattle.own_replies.specs.Replies.{next_name, since, tells, AreChanges, AreOffersAt, AreRepairsOf, IsReply, IsReplyAbout, IsReplyOf, IsSomeResultIfFit};
 ghost use Rattle.own_replies.specs.Servers.{after, replying_state, state_with};
 
 use crate::offered::all_offered;
 use crate::results::{Results, Told, change, since};
+use crate::ways::ways_in;
 use colours::{full, lines};
 use completion::{Offers, offers_at};
 use definitions::{Position, Range};
 use docs::{Doc, Language};
-use editor_replies::{Sent, Value, brackets_value, fixes_value, hover_value, outline_value};
+use editor_replies::{
+    Sent, Value, brackets_value, fixes_value, hover_value, nodes_value, outline_value, rows_value,
+};
 use faults::About;
+use flat_trees::{following, looked_at};
 use hover::{Markup, brackets, hover};
 use mending::Repair;
 use outline::outline;
@@ -26,6 +30,8 @@ use questions::{Asked, Own, Question};
 use rpc::{Id, Refusal, Reply};
 use shown::Known;
 use std::alloc::{AllocError, Global};
+use token_rows::token_rows;
+use wording::{END, word};
 
 /// A reply about a document, and the colours that are told by it, where they are a whole
 /// document's.
@@ -231,6 +237,60 @@ impl<'a> Replying<'a> {
         fixes_value(alloc, uri, &about.fixes(range)?)
     }
 
+    /// The tokens of an open document on the lines from one up to another.
+    fn rows(&self, alloc: Global, doc: &Doc, from: u32, to: u32) -> Result<Value, AllocError> {
+        let rows = token_rows(alloc, self.language(), doc, from, to)?;
+        rows_value(alloc, doc.version(), &rows)
+    }
+
+    /// What may follow at a position of an open document, in words.
+    fn follow(
+        &self,
+        alloc: Global,
+        doc: &Doc,
+        position: Position,
+    ) -> Result<Vec<String>, AllocError>
+        requires { IsCurrent (language_of self.now.known.now.core) doc.now }
+    {
+        let (language, settings) = (self.language(), &self.known.shown.settings);
+        let copy = self.known.kept(doc);
+        let mut words = Vec::new(alloc);
+        for look in following(alloc, language, doc, copy, position)? {
+            let word = match look {
+                Some(rule) => word(alloc, language.grammar(), settings, rule)?,
+                None => String::from_str(alloc, END)?,
+            };
+            words.push(word)?;
+        }
+        Ok(words)
+    }
+
+    /// The reply with the nodes around a position of an open document, and those that a value
+    /// names, and with what may follow there.
+    fn nodes(
+        &self,
+        alloc: Global,
+        id: Id,
+        doc: &Doc,
+        position: Position,
+        open: &Value,
+    ) -> Result<Sent, AllocError>
+        requires { IsCurrent (language_of self.now.known.now.core) doc.now }
+        ensures { IfOk result (λ message.
+            IsSomeResultIfFit (id_view id) (message_view message)) }
+    {
+        let Some(named) = ways_in(alloc, open)? else {
+            return Ok(refused(id, Refusal::InvalidParams));
+        };
+        let copy = self.known.kept(doc);
+        let looked = looked_at(alloc, self.language(), doc, copy, position, &named)?;
+        let follow = self.follow(alloc, doc, position)?;
+        Ok(Sent::Result {
+            id,
+            value: nodes_value(alloc, doc.version(), &looked, &follow)?,
+        })
+    }
+
     /// The reply to a question about an open document.
     fn reply_of(
         &self,
@@ -279,6 +339,11 @@ impl<'a> Replying<'a> {
                 id,
                 value: self.fixes(alloc, uri, doc, *range)?,
             },
+            Question::Rows(from, to) => Sent::Result {
+                id,
+                value: self.rows(alloc, doc, *from, *to)?,
+            },
+            Question::Nodes(position, open) => self.nodes(alloc, id, doc, *position, open)?,
         };
         Ok(Replied {
             message,

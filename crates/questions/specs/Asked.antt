@@ -1,8 +1,10 @@
 -- The requests that the editor's server answers itself, not the core (LSP 3.17, "Language Features").
-use Rattle.std.specs.Prelude.{ℕ, ◌+◌, max, min, if◌then◌else◌, List, codes, Option, Some, None, option_and_then, option_map, string_bytes}
+use Rattle.std.specs.Prelude.{ℕ, ◌+◌, max, min, if◌then◌else◌, List, codes, string_bytes}
+use Rattle.std.specs.Prelude.{Option, Some, None, option_and_then, option_map, unwrap_or}
 use Rattle.std.specs.Str.{bytes_eq}
-use Rattle.serde_json.specs.Data.{Data}
+use Rattle.serde_json.specs.Data.{Data, null}
 use Rattle.serde_json.specs.Find.{get}
+use Rattle.serde_json.specs.View.{view}
 use Rattle.definitions.specs.declared.Position.{Position}
 use Rattle.definitions.specs.declared.Range.{Range}
 use Rattle.rpc.specs.Fields.{text_at}
@@ -13,8 +15,9 @@ use Rattle.questions.specs.declared.asked.Question.{Question as Wish}
 use Rattle.questions.specs.declared.asked.Question.TheVariants as wish
 
 -- what is asked of a document: its colours; what has changed of them since the result of this name; those of the lines from one up to
--- another, that one left out; its outline; or at a position what may follow, what stands there, or the brackets of one node of which one is
--- there; or what mends the faults at a range
+-- another, that one left out; its outline; or at a position what may follow, what stands there, or the brackets of one node of which one
+-- is there; what mends the faults at a range; the tokens of the lines from one up to another, that one left out; or the nodes of its tree
+-- around a position, and those that a JSON value names
 pub data Question : Type 0 where
   its_colours : Question
   its_changes : List ℕ → Question
@@ -24,6 +27,8 @@ pub data Question : Type 0 where
   its_hover : Position → Question
   its_brackets : Position → Question
   its_fixes : Range → Question
+  its_rows : ℕ → ℕ → Question
+  its_nodes : Position → Data → Question
 
 -- what a request asks: of the document of a URI this; or its parameters don't fit its method
 pub data Asked : Type 0 where
@@ -44,9 +49,9 @@ about_document _ _ = misfit
 abbrev pub range_asked : Data → Option Range
 range_asked d = option_and_then range_of (get (codes "range") d)
 
--- what `textDocument/semanticTokens/range` asks of a document, by its parameters (LSP 3.17, "SemanticTokensRangeParams")
-abbrev pub lines_asked : Data → Option Question
-lines_asked d = option_map (λ r. its_lines (lines_of r).0 (lines_of r).1) (range_asked d)
+-- the lines that are asked about: those that the range has a part of (LSP 3.17, "SemanticTokensRangeParams")
+abbrev pub lines_asked : Data → Option (ℕ × ℕ)
+lines_asked d = option_map lines_of (range_asked d)
 
 -- the name of the result since which changes are asked for (LSP 3.17, "SemanticTokensDeltaParams")
 abbrev pub name_asked : Data → Option (List ℕ)
@@ -56,13 +61,22 @@ name_asked d = text_at (codes "previousResultId") d
 abbrev pub place_asked : Data → Option Position
 place_asked d = position_at (codes "position") d
 
+-- what names the nodes that are asked for besides those around a position
+abbrev pub named_asked : Data → Data
+named_asked d = unwrap_or (get (codes "open") d) null
+
+-- the nodes that `lrls/nodes` asks for
+abbrev pub nodes_asked : Data → Option Question
+nodes_asked d = option_map (λ place. its_nodes place (named_asked d)) (place_asked d)
+
 -- `asked_of method d`: what a request of this method with the parameters `d` asks; none where the method is not the editor's server's
 abbrev pub asked_of : List ℕ → Data → Option Asked
 asked_of method d =
     if bytes_eq method (codes "textDocument/semanticTokens/full") then Some (about_document (uri_at d) (Some its_colours)) else (
     if bytes_eq method (codes "textDocument/semanticTokens/full/delta")
     then Some (about_document (uri_at d) (option_map its_changes (name_asked d))) else (
-    if bytes_eq method (codes "textDocument/semanticTokens/range") then Some (about_document (uri_at d) (lines_asked d)) else (
+    if bytes_eq method (codes "textDocument/semanticTokens/range")
+    then Some (about_document (uri_at d) (option_map (λ l. its_lines l.0 l.1) (lines_asked d))) else (
     if bytes_eq method (codes "textDocument/documentSymbol") then Some (about_document (uri_at d) (Some its_outline)) else (
     if bytes_eq method (codes "textDocument/completion")
     then Some (about_document (uri_at d) (option_map its_offers (place_asked d))) else (
@@ -70,8 +84,11 @@ asked_of method d =
     if bytes_eq method (codes "textDocument/documentHighlight")
     then Some (about_document (uri_at d) (option_map its_brackets (place_asked d))) else (
     if bytes_eq method (codes "textDocument/codeAction")
-    then Some (about_document (uri_at d) (option_map its_fixes (range_asked d))) else
-    None)))))))
+    then Some (about_document (uri_at d) (option_map its_fixes (range_asked d))) else (
+    if bytes_eq method (codes "lrls/tokens")
+    then Some (about_document (uri_at d) (option_map (λ l. its_rows l.0 l.1) (lines_asked d))) else (
+    if bytes_eq method (codes "lrls/nodes") then Some (about_document (uri_at d) (nodes_asked d)) else
+    None)))))))))
 
 -- what a JSON value asks, by its method and parameters
 abbrev pub asked_by : Data → Option Asked
@@ -91,6 +108,8 @@ question_view (wish.Offers position) = its_offers position
 question_view (wish.Hover position) = its_hover position
 question_view (wish.Brackets position) = its_brackets position
 question_view (wish.Fixes range) = its_fixes range
+question_view (wish.Rows first end) = its_rows first end
+question_view (wish.Nodes position named) = its_nodes position (view named)
 
 -- what a request of the code asks, as `Asked`
 abbrev pub asked_view : Put → Asked

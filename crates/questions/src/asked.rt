@@ -3,7 +3,7 @@
 ghost use Rattle.std.specs.Prelude.{◌≡◌, option_map, IfOk};
 ghost use Rattle.serde_json.specs.View.{view};
 ghost use Rattle.rpc.specs.Reading.{uri_at};
-ghost use Rattle.questions.specs.Asked.{about_document, asked_by, asked_in, asked_of, asked_view, its_changes, lines_asked, name_asked, place_asked, question_view, range_asked};
+ghost use Rattle.questions.specs.Asked.{about_document, asked_by, asked_in, asked_of, asked_view, its_changes, lines_asked, name_asked, named_asked, nodes_asked, place_asked, question_view, range_asked};
 
 use definitions::{Position, Range};
 use rpc::{position_at, range_of, text_at, uri_at};
@@ -31,6 +31,11 @@ pub enum Question {
     Brackets(Position),
     /// What mends the faults at this range (LSP 3.17, "CodeActionParams").
     Fixes(Range),
+    /// The tokens of the lines from the first up to the second, that one left out.
+    Rows(u32, u32),
+    /// The nodes of its tree around this position, and those that this value names; `null` names
+    /// none.
+    Nodes(Position, Value),
 }
 
 /// What a request asks.
@@ -58,13 +63,34 @@ fn about_document(
     }
 }
 
-/// What `textDocument/semanticTokens/range` asks: the lines that the range has a part of.
-fn lines_asked(params: &Value) -> Option<Question>
-    ensures { option_map question_view result ≡ lines_asked (view params.now) }
+/// The first line that the range has a part of, and the one after the last.
+fn lines_asked(params: &Value) -> Option<(u32, u32)>
+    ensures { result ≡ lines_asked (view params.now) }
 {
     let range = range_asked(params)?;
     let (start, end) = (range.start.line, range.end.line);
-    Some(Question::Lines(start.min(end), start.max(end).saturating_add(1)))
+    Some((start.min(end), start.max(end).saturating_add(1)))
+}
+
+/// What names the nodes that are asked for besides those around a position.
+fn named_asked(params: &Value) -> Result<Value, AllocError>
+    ensures { IfOk result (λ named. view named ≡ named_asked (view params.now)) }
+{
+    match params.get("open") {
+        Some(open) => open.clone(),
+        None => Ok(Value::Null),
+    }
+}
+
+/// What `lrls/nodes` asks: the nodes around a position, and those that are named.
+fn nodes_asked(params: &Value) -> Result<Option<Question>, AllocError>
+    ensures { IfOk result (λ question.
+        option_map question_view question ≡ nodes_asked (view params.now)) }
+{
+    match place_asked(params) {
+        Some(position) => Ok(Some(Question::Nodes(position, named_asked(params)?))),
+        None => Ok(None),
+    }
 }
 
 /// The position that is asked about (LSP 3.17, "TextDocumentPositionParams").
@@ -100,12 +126,16 @@ fn asked_of(alloc: Global, method: &str, params: &Value) -> Result<Option<Asked>
     let question = match method {
         "textDocument/semanticTokens/full" => Some(Question::Colours),
         "textDocument/semanticTokens/full/delta" => changes_asked(alloc, params)?,
-        "textDocument/semanticTokens/range" => lines_asked(params),
+        "textDocument/semanticTokens/range" => {
+            lines_asked(params).map(|lines| Question::Lines(lines.0, lines.1))
+        }
         "textDocument/documentSymbol" => Some(Question::Outline),
         "textDocument/completion" => place_asked(params).map(Question::Offers),
         "textDocument/hover" => place_asked(params).map(Question::Hover),
         "textDocument/documentHighlight" => place_asked(params).map(Question::Brackets),
         "textDocument/codeAction" => range_asked(params).map(Question::Fixes),
+        "lrls/tokens" => lines_asked(params).map(|lines| Question::Rows(lines.0, lines.1)),
+        "lrls/nodes" => nodes_asked(params)?,
         _ => return Ok(None),
     };
     Ok(Some(about_document(alloc, params, question)?))

@@ -4,7 +4,8 @@
 //! on. `Origins` says which kinds of a copy stand for which, after many changes.
 //!
 //! Words: a *change* puts a kind in, leaves one out, or lets one stay between others. The *rank*
-//! of a rule says what is put in first; a closing bracket or a separator should have a low one.
+//! of a rule says what is put in or left out first: a closing bracket or a separator should have a
+//! low one of putting it in, and brackets and separators a high one of leaving them out.
 //!
 //! A remedy is the cheapest found after which three more kinds, or the end, go on. Each kind that
 //! it puts in or leaves out costs one, four at most, and a fault behind it one, or three within 32
@@ -15,12 +16,12 @@
 //! where three go on; a fault behind them counts as four kinds, or 24 within 32.
 //!
 //! Limits: the moves that are allowed, twice, 512 places for each number of changes, and 8 lists
-//! of changes. In the example `tables` are those of the grammar file in README.md, and `pile` is
-//! the stack after `LP NUM`.
+//! of changes. In the example `tables` are those of the grammar file in README.md, `ranks` are
+//! those of its rules, and `pile` is the stack after `LP NUM`.
 //!
 //! ```
 //! let fault = Fault { pile, kinds: &[], most: 2, moves: 2048 };
-//! let remedy = fault.remedy(alloc, &[2, 0, 3, 0]).ok()??;
+//! let remedy = fault.remedy(alloc, ranks).ok()??;
 //! println!(rt; "{:?}", remedy.changes).ok()
 //! // [PutIn(3)]
 //! ```
@@ -29,6 +30,7 @@
 mod ahead;
 mod change;
 mod origins;
+mod rank;
 mod remedy;
 mod resume;
 mod search;
@@ -36,4 +38,5 @@ mod search;
 pub use ahead::LOOK;
 pub use change::Change;
 pub use origins::Origins;
+pub use rank::Rank;
 pub use remedy::{Fault, Remedy};

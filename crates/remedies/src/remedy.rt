@@ -5,6 +5,7 @@ ghost use Rattle.remedies.specs.Changes.{passed};
 
 use crate::ahead::Ahead;
 use crate::change::Change;
+use crate::rank::Rank;
 use crate::resume::{Gap, bases, least_gap, stack_of};
 use crate::search::Search;
 use definitions::Kind;
@@ -83,8 +84,9 @@ fn gap_remedy(alloc: Global, gap: Gap) -> Result<Option<Remedy>, AllocError>
 impl Fault<'_> {
     /// What mends it: what is left out before it is a part of the changes. None where nothing is
     /// left that could be left out. Of what mends it as cheaply and lets as many kinds go on, what
-    /// has the lowest `ranks` is taken; a rule without one comes last. Refuses for memory alone.
-    pub fn remedy(self, alloc: Global, ranks: &[u8]) -> Result<Option<Remedy>, AllocError>
+    /// has the lowest sum of `ranks` is taken; a rule without one is put in last. Refuses for
+    /// memory alone.
+    pub fn remedy(self, alloc: Global, ranks: &[Rank]) -> Result<Option<Remedy>, AllocError>
         ensures { IfOk result (λ found. IfSome found (λ remedy.
             remedy.before ≤ passed remedy.changes.items)) }
     {

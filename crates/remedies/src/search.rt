@@ -3,6 +3,7 @@
 
 use crate::ahead::{Ahead, ENOUGH};
 use crate::change::Change;
+use crate::rank::Rank;
 use definitions::Kind;
 use indexmap::IndexSet;
 use std::alloc::{AllocError, Global};
@@ -31,8 +32,11 @@ const MOST_RANK: usize = 16;
 /// How many repairs are found at most.
 const MOST_REPAIRS: usize = 8;
 
-/// The rank of leaving a kind out, and of what isn't ranked.
-const LEFT_OUT: usize = 1;
+/// The rank of what has none.
+const UNRANKED: Rank = Rank {
+    put_in: u8::MAX,
+    leave_out: 1,
+};
 
 /// A place to which changes lead.
 #[derive(Clone, Copy)]
@@ -90,8 +94,8 @@ impl Rating {
 pub struct Search<'a> {
     alloc: Global,
     pub ahead: Ahead<'a>,
-    /// The rank of each token rule, of which low ones are put in rather than high ones.
-    ranks: &'a [u8],
+    /// The rank of each token rule.
+    ranks: &'a [Rank],
     places: Vec<Place>,
     /// How many places there may be.
     most: usize,
@@ -107,7 +111,7 @@ impl<'a> Search<'a> {
     pub fn new(
         alloc: Global,
         ahead: Ahead<'a>,
-        ranks: &'a [u8],
+        ranks: &'a [Rank],
         stack: usize,
     ) -> Result<Search<'a>, AllocError> {
         let mut places = Vec::new(alloc);
@@ -139,32 +143,37 @@ impl<'a> Search<'a> {
         Ok(())
     }
 
+    /// The rank of a kind.
+    fn rank(&self, kind: Kind) -> Rank {
+        match kind {
+            Kind::Rule(rule) => self.ranks.get(rule).copied().unwrap_or(UNRANKED),
+            Kind::Invalid => UNRANKED,
+        }
+    }
+
     /// Adds the place where the next kind is left out, if there is one.
     fn leave_out(&mut self, here: Place) -> Result<(), AllocError> {
-        if self.ahead.kinds.len() <= here.passed {
+        let Some(kind) = self.ahead.kinds.get(here.passed).copied() else {
             return Ok(());
-        }
+        };
         self.add(Place {
             passed: here.passed.saturating_add(1),
             change: Change::LeaveOut,
-            rank: here.rank.saturating_add(LEFT_OUT),
+            rank: here.rank.saturating_add(self.rank(kind).leave_out as usize),
             ..here
         })
     }
 
     /// Adds the place where a kind is put in, if it goes on.
     fn put_in(&mut self, here: Place, rule: usize) -> Result<(), AllocError> {
-        let Some(stack) = self.ahead.stacks.read(here.stack, Kind::Rule(rule))? else {
+        let kind = Kind::Rule(rule);
+        let Some(stack) = self.ahead.stacks.read(here.stack, kind)? else {
             return Ok(());
-        };
-        let rank = match self.ranks.get(rule) {
-            Some(rank) => *rank,
-            None => u8::MAX,
         };
         self.add(Place {
             stack,
             change: Change::PutIn(rule),
-            rank: here.rank.saturating_add(rank as usize),
+            rank: here.rank.saturating_add(self.rank(kind).put_in as usize),
             ..here
         })
     }
@@ -309,9 +318,10 @@ impl<'a> Search<'a> {
     }
 
     /// The cheapest changes after which enough kinds go on, where a fault that comes behind costs
-    /// too; of these the ones with which the most kinds go on, then those of the least rank, and
-    /// then the first ones, where leaving out comes before putting in, and that in file order.
-    /// They come first, and behind them others of as many changes, the best first, eight in all.
+    /// too; of these the ones with which the most kinds go on, then those of the lowest sum of
+    /// ranks, of what they put in and leave out, and then the first ones, where leaving out comes
+    /// before putting in, and that in file order. They come first, and behind them others of as
+    /// many changes, the best first, eight in all.
     /// None where none are found, or where the moves run out before all are tried and a fault
     /// comes right behind the best ones.
     pub fn run(&mut self) -> Result<Option<Vec<Vec<Change>>>, AllocError> {

@@ -5,11 +5,11 @@ ghost use Rattle.settings.specs.Settings.{AreSettings, IsColour};
 
 use crate::expressions::{RuleText, begins_with, line_comment, literal};
 use crate::kinds::{COMMENT, KEYWORD, NUMBER, OPERATOR, STRING, VARIABLE};
-use crate::names::patterns;
 use crate::nodes::guess_symbols;
 use crate::settings::Settings;
 use definitions::Expression;
 use grammar::{Grammar, Kind};
+use patterns::Pattern;
 use std::alloc::{AllocError, Global};
 
 /// The settings that a language probably wants.
@@ -42,6 +42,15 @@ pub fn nothing(alloc: Global, rules: usize) -> Result<Vec<Option<String>>, Alloc
         texts.push(None)?;
     }
     Ok(texts)
+}
+
+/// The patterns of the rules, one for each.
+fn patterns(grammar: &Grammar) -> &[Pattern]
+    ensures { length result.now ≡ length grammar.now.names }
+{
+    // The invariant of a grammar is what this call promises.
+    let _start = grammar.start();
+    grammar.patterns()
 }
 
 /// The text of each rule that has one.

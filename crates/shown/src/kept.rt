@@ -172,7 +172,7 @@ impl Kept {
         Ok(())
     }
 
-    /// The mended copy of a document that has a fault, where it is kept.
+    /// The mended copy of a document, if it is kept; none of a document without a fault.
     pub(crate) fn copy(&self, doc: &Doc) -> Option<&Mending>
         ensures { IfSome result (λ m. IsMendingOf (language_of self.now).tables
             (significant_kinds doc.now.tokens.items) m.now) }

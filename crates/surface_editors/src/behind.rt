@@ -13,12 +13,12 @@ ghost use Rattle.readings.specs.Contents.{placed_parts};
 use definitions::Range;
 use docs::{Doc, Language};
 use faults::{About, FaultBehind, Fix, Note, TextEdit, Words};
-use mending::Mending;
+use mending::{Mending, Rank};
 use settings::{RuleText, Settings};
 use std::alloc::{AllocError, Global};
 
 /// `faults::ranks`.
-pub fn ranks(alloc: Global, texts: &[Option<RuleText>]) -> Result<Vec<u8>, AllocError>
+pub fn ranks(alloc: Global, texts: &[Option<RuleText>]) -> Result<Vec<Rank>, AllocError>
     ensures { IfOk result (λ ranks. length ranks.items ≡ length texts.now) }
 {
     faults::ranks(alloc, texts)

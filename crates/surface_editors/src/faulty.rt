@@ -12,7 +12,7 @@ ghost use Rattle.trees.specs.declared.store.Child.{Child};
 
 use definitions::{Kind, Position, Range};
 use docs::{Doc, Language};
-use mending::{Change, Listed, Mending, Repair};
+use mending::{Change, Listed, Mending, Rank, Repair};
 use parser::Parse;
 use std::alloc::{AllocError, Global};
 use tables::Tables;
@@ -22,7 +22,7 @@ use trees::{NodeId, Store};
 pub fn whole(
     alloc: Global,
     tables: &Tables,
-    ranks: &[u8],
+    ranks: &[Rank],
     kinds: &[Kind],
 ) -> Result<Mending, AllocError>
     ensures mended { IfOk result (IsMendingOf tables.now kinds.now) }
@@ -36,7 +36,7 @@ pub fn whole(
 pub fn follow(
     alloc: Global,
     tables: &Tables,
-    ranks: &[u8],
+    ranks: &[Rank],
     kinds: &[Kind],
     before: Mending,
 ) -> Result<Mending, AllocError>
@@ -118,6 +118,12 @@ pub fn change(change: Change) -> Option<usize> {
         Change::PutIn(rule) => Some(rule),
         Change::LeaveOut | Change::Keep => None,
     }
+}
+
+/// `Rank`.
+pub fn rank(rank: Rank) -> (u8, u8) {
+    let Rank { put_in, leave_out } = rank;
+    (put_in, leave_out)
 }
 
 /// `outline::mended_folds`.

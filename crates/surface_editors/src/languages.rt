@@ -1,16 +1,17 @@
-//! What callers rely on of the settings of a language: `settings`.
+//! What callers rely on of the settings of a language: `settings` and `settings_files`.
 
-ghost use Rattle.std.specs.Prelude.{◌≡◌, All, IfErr, IfOk, IsNone, IsSome, None};
+ghost use Rattle.std.specs.Prelude.{◌≡◌, ◌<◌, All, IfErr, IfOk, IfSome, IsNone, IsSome, None, vec_len};
 ghost use Rattle.toml.specs.Parse.{parse_document};
-ghost use Rattle.settings.specs.Faults.{IsTomlFault};
-ghost use Rattle.settings.specs.Settings.{AreSettings};
+ghost use Rattle.settings.specs.Settings.{AreSettings, IsKind};
+ghost use Rattle.settings_files.specs.Faults.{IsTomlFault};
 
 use definitions::{Expression, Symbol};
 use grammar::Grammar;
 use settings::{
-    COMMENT, KEYWORD, Mistake, NUMBER, NamePart, OPERATOR, Place, RuleText, STRING, SYMBOL_KINDS,
-    Settings, SettingsFault, SymbolRule, TOKEN_TYPES, VARIABLE,
+    COMMENT, KEYWORD, NUMBER, NamePart, OPERATOR, RuleText, STRING, SYMBOL_KINDS, Settings,
+    SymbolRule, TOKEN_TYPES, VARIABLE,
 };
+use settings_files::{Mistake, Place, SettingsFault};
 use std::alloc::{AllocError, Global};
 
 /// `TOKEN_TYPES`.
@@ -130,31 +131,53 @@ pub fn guess(alloc: Global, grammar: &Grammar) -> Result<Settings, AllocError>
     settings::guess(alloc, grammar)
 }
 
-/// `settings::read`.
+/// `settings::nothing`.
+pub fn nothing(alloc: Global, rules: usize) -> Result<Vec<Option<String>>, AllocError>
+    ensures len { IfOk result (λ texts. vec_len texts ≡ rules) }
+    ensures none { IfOk result (λ texts. All IsNone texts.items) }
+{
+    settings::nothing(alloc, rules)
+}
+
+/// `settings::symbol_kind`.
+pub fn symbol_kind(name: &str) -> Option<u32>
+    ensures { IfSome result IsKind }
+{
+    settings::symbol_kind(name)
+}
+
+/// `settings::token_type`.
+pub fn token_type(name: &str) -> Option<u32>
+    ensures { IfSome result (λ number. number < 23) }
+{
+    settings::token_type(name)
+}
+
+/// `settings_files::read`.
 pub fn read(alloc: Global, grammar: &Grammar, text: &str) -> Result<Settings, SettingsFault>
     ensures settings { IfOk result (AreSettings grammar.now) }
     ensures toml { IfOk result (λ _. IsSome (parse_document text.now)) }
     ensures no_toml { IfErr result (λ f. IsTomlFault f → parse_document text.now ≡ None) }
 {
-    settings::read(alloc, grammar, text)
+    settings_files::read(alloc, grammar, text)
 }
 
-/// `settings::grammar_of`.
+/// `settings_files::grammar_of`.
 pub fn grammar_of(alloc: Global, text: &str) -> Result<Option<String>, SettingsFault>
     ensures toml { IfOk result (λ _. IsSome (parse_document text.now)) }
     ensures no_toml { IfErr result (λ f. IsTomlFault f → parse_document text.now ≡ None) }
 {
-    settings::grammar_of(alloc, text)
+    settings_files::grammar_of(alloc, text)
 }
 
-/// `settings::to_toml`.
+/// `settings_files::to_toml`.
 pub fn to_toml(
     alloc: Global,
     grammar: &Grammar,
     settings: &Settings,
     grammar_file: &str,
 ) -> Result<String, AllocError> {
-    settings::to_toml(alloc, grammar, settings, grammar_file)
+    settings_files::to_toml(alloc, grammar, settings, grammar_file)
 }
 
 /// `settings::literal`.

@@ -26,6 +26,6 @@ mod found;
 mod messages;
 mod words;
 
-pub use found::{Found, found_text, shown};
+pub use found::{END, Found, found_text, shown};
 pub use messages::{every, message, related};
 pub use words::word;

@@ -1,6 +1,0 @@
-use Rattle.std.proofs.Common.{All}
-use Rattle.settings.specs.Settings.{IsSymbolRule}
-use Rattle.settings.proofs.symbols.symbol_rules.Given as goal
-
-abbrev pub invariant-loop-index : goal.invariant-loop-index
-invariant-loop-index l = All (IsSymbolRule l.grammar) l.symbols.items
