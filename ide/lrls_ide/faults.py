@@ -5,7 +5,6 @@ from dataclasses import dataclass, field
 from pathlib import Path
 from typing import Any
 
-from .text import span
 
 LINE = re.compile(r"lrls: line (\d+): (.*)")
 ITEM = re.compile(r"item: (\S+) = (.*), (\S+)")
@@ -105,7 +104,8 @@ class GrammarFault:
         lines = text.split("\n")
         line = lines[self.line].rstrip("\r") if self.line < len(lines) else ""
         width = len(line) + sum(character > "\uffff" for character in line)
-        return span((self.line, min(self.start, width)), (self.line, width))
+        start = {"line": self.line, "character": min(self.start, width)}
+        return {"start": start, "end": {"line": self.line, "character": width}}
 
 
 def read_fault(printed: str, path: Path) -> GrammarFault:

@@ -1,182 +1,53 @@
-"""What stands behind one page of `lrls-playground`: a server for its text, one for its grammar, and
-their cores. Each page has a process, so that one with much to do makes no other one wait."""
+"""What stands behind one page of `lrls-playground`: a bridge to an `lrls-ide` for its text and to another one for its grammar.
+Each page has a process, so that one with much to do makes no other one wait."""
 
 import asyncio
 import contextlib
 import json
-import resource
 import shutil
 import signal
 import sys
 import tempfile
-import time
 from pathlib import Path
-from typing import Any, Callable
+from typing import Any, Callable, Coroutine
 
-from .answers import INVALID_PARAMS, Answers, member, uri_in
-from .core import Gone, Refused
-from .documents import is_version
-from .faults import GrammarFault, text_of
+from .faults import GrammarFault, read_fault, text_of
 from .frames import Decoder, framed, written
-from .language import GRAMMARS, Language, Source
-from .nodes import MOST_SHOWN, FlatTree, Path as Way, Shown
-from .probe import NoRoom
-from .server import METHODS, Server
+from .programs import GRAMMARS, Programs, how_it_ended, run, why_not_started
+from .server import Gone, Refused, Server
 from .streams import Reader, Writer
-from .text import is_count, place_in
 
 TEXT = "page:text"
-# Of each core: the bytes of memory, and the seconds of processor time.
-MEMORY, SECONDS = 1 << 30, 300
 # The methods that a page may send.
-NOTES = ("textDocument/didOpen", "textDocument/didChange")
-ASKED = ("textDocument/foldingRange",)
-OF_PAGE = ("lrls/edit", "lrls/nodes", "lrls/tokens")
-OF_GRAMMAR = "lrls/grammar"
-# So many nodes besides those around a place are told at once, so deep in the tree.
-MOST_OPEN, MOST_DEEP = 60, 1_000
+NOTES = ("textDocument/didOpen", "textDocument/didChange", "textDocument/didClose")
+ASKED = ("textDocument/foldingRange", "textDocument/semanticTokens/range", "lrls/nodes", "lrls/tokens")
+OF_EDIT, OF_GRAMMAR = "lrls/edit", "lrls/grammar"
 # So many bytes wait for a page that doesn't take them.
 MOST_WAITING = 64 << 20
+# So often a server that ends is started again, and within so many seconds the next end counts as the same trouble.
+MOST_STARTS, SECONDS = 3, 10
 EMPTY = 'lrgrammar 2\ntoken X = "x"\nstart S\nS = X*\n'
 # What the web server reads of a page that must not go on.
 BAD = b'{"from":"page","bad":'
+SHOWN = b"window/showMessage"
+INVALID_PARAMS = Refused(-32602, "Invalid params")
 
 Send = Callable[[bytes], None]
 
 
-def opened(params: Any) -> list[tuple[Way, int]]:
-    """The nodes that a page names by their ways, each with the part that it is to begin with."""
-    found, rows = [], params.get("open", [])
-    if not isinstance(rows, list) or len(rows) > MOST_OPEN:
-        raise INVALID_PARAMS
-    for row in rows:
-        path, part = member(row, "path"), member(row, "part")
-        if not isinstance(path, list) or len(path) > MOST_DEEP or not is_count(part):
-            raise INVALID_PARAMS
-        if not all(is_count(index) for index in path):
-            raise INVALID_PARAMS
-        found.append((path, part))
-    return found
+def member(value: Any, *names: str) -> Any:
+    """What objects within objects have under these names; None where something is missing."""
+    for name in names:
+        value = value.get(name) if isinstance(value, dict) else None
+    return value
 
 
-class PageAnswers(Answers):
-    """The answers that only a page asks for: the tree, and the tokens of some lines."""
-
-    def __init__(self, *given: Any) -> None:
-        super().__init__(*given)
-        self.methods |= {"lrls/nodes": self.nodes, "lrls/tokens": self.rows}
-
-    async def nodes(self, params: Any) -> Any:
-        """`lrls/nodes`: the way to a place with the nodes on it, the nodes that are open besides,
-        and what may follow at the place."""
-        uri, place, also = uri_in(params), place_in(params.get("position")), opened(params)
-        if place is None:
-            raise INVALID_PARAMS
-        document, structure = await self.structure(uri)
-        serial = document.serial
-        place = document.text.place(*document.text.inside(place))
-        found: dict[str, Any] = {"version": document.version, "root": None, "path": [], "nodes": []}
-        if structure.tree is not None:
-            flat = document.made.get("flat")
-            if flat is None or flat.tree is not structure.tree:
-                flat = document.made["flat"] = FlatTree(structure.tree)
-            shown = Shown(flat, document.text, structure.count)
-            path = flat.path(place, structure.count)
-            more = [node for way, part in also if (node := shown.at(way, part))]
-            root = shown.line(flat.line(0, 0))
-            found |= {"root": root, "path": path, "nodes": [*shown.around(path), *more]}
-        found["follow"] = await self.follow(document.text.before(place))
-        self.unchanged(document, serial)
-        return found
-
-    async def follow(self, text: str) -> list[str]:
-        """The words for what may follow a text."""
-        try:
-            async with self.probe.lock:
-                names = await self.probe.expected(text)
-        except NoRoom:
-            names = []
-        return [self.language.wording.word(name) for name in names]
-
-    async def rows(self, params: Any) -> Any:
-        """`lrls/tokens`: the tokens of some lines, with their texts."""
-        first, last = params.get("first"), params.get("last")
-        if not is_count(first) or not is_count(last):
-            raise INVALID_PARAMS
-        document, tokens = await self.tokens(uri_in(params))
-        skipped, found = self.language.grammar.skipped, []
-        begin = tokens.begin_of(min(first, len(tokens.lines) - 1))
-        for name, *place in tokens.rows(begin, last + 1):
-            start, end = (place[0], place[1]), (place[2], place[3])
-            text = document.text.between(start, end)[:MOST_SHOWN]
-            found.append([name, *place, text, name in skipped])
-        return {"version": document.version, "rows": found}
-
-
-class PageServer(Server):
-    """A server whose editor is a part of a page. What it sends goes to `send`, under its name."""
-
-    methods = (*METHODS, *OF_PAGE)
-    answering = PageAnswers
-
-    def __init__(self, name: str, program: str, source: Source, send: Send) -> None:
-        super().__init__(program, source)
-        self.name, self.send_to_page = name, send
-        self.limit = limit_core
-        self.is_ready = asyncio.Event()
-        self.sent_at = self.took = 0.0
-
-    def initialized(self, result: bytes) -> None:
-        """Notes that the server can be asked now."""
-        super().initialized(result)
-        self.is_ready.set()
-
-    def put(self, content: bytes) -> None:
-        """Hands a content to the page."""
-        self.send_to_page(b'{"from":"%s","message":%s}' % (self.name.encode(), content))
-
-    def about_document(self, content: bytes, method: str, params: Any) -> None:
-        """Notes when a change goes to the core."""
-        self.sent_at = time.perf_counter()
-        super().about_document(content, method, params)
-
-    def published(self, uri: str, version: int | None, diagnostics: list[dict[str, Any]]) -> None:
-        """Notes how long the core took for a change: since it was sent, or since the core had sent
-        something else, if that was later."""
-        if uri == TEXT and version is not None and self.core is not None:
-            self.took = self.core.last_at - max(self.sent_at, self.core.before_at)
-        super().published(uri, version, diagnostics)
-
-    async def worked_out(self, method: str, params: Any) -> Any:
-        """The result of a request. `lrls/edit` has the last edit's numbers, and how long it took,
-        which only is known here."""
-        if method != "lrls/edit":
-            return await super().worked_out(method, params)
-        if self.core is None:
-            raise self.no_core()
-        took = self.took
-        result, _ = await self.core.ask("lr/stats", uri_in(params))
-        return {**json.loads(result), "milliseconds": round(took * 1000, 3)}
-
-    def take_language(self, language: Language, result: bytes) -> None:
-        """From now on this language is served. Settings that don't fit its grammar are another
-        one's: they are dropped."""
-        if language.fault:
-            self.source.settings.unlink(missing_ok=True)
-            language = Language(language.grammar, language.settings)
-        super().take_language(language, result)
-
-    def tell_trouble(self, fault: GrammarFault, why: str | None) -> None:
-        """What is wrong with the grammar is in the answer to who sent it."""
-        if why:
-            super().tell_trouble(fault, why)
-
-
-def limit_core() -> None:
-    """Limits a core, in its own process, before it begins."""
-    resource.setrlimit(resource.RLIMIT_AS, (MEMORY, MEMORY))
-    resource.setrlimit(resource.RLIMIT_CPU, (SECONDS, SECONDS))
-    resource.setrlimit(resource.RLIMIT_CORE, (0, 0))
+def id_of(message: dict[str, Any]) -> int | None:
+    """The id of a request of a page; None of a message that has none."""
+    value = message.get("id")
+    if not isinstance(value, int) or isinstance(value, bool):
+        return None
+    return value if 0 <= value < 1 << 31 else None
 
 
 def told(fault: GrammarFault, text: str) -> dict[str, Any]:
@@ -202,37 +73,109 @@ class BadMessage(Exception):
     """What a page must not send. The text says why."""
 
 
-class Page:
-    """One page: its two servers, and the folder that its grammar is in."""
+class Part:
+    """A part of a page, with the server that looks at it, which is started again where it ends. What the server sends goes to
+    the page under the part's name."""
 
-    def __init__(self, program: str, send: Send) -> None:
+    def __init__(self, name: str, words: list[str], send: Send) -> None:
+        self.name, self.words, self.send_to_page = name, words, send
+        self.server = self.new_server()
+        self.starts = 0
+        self.tasks: set[asyncio.Task[Any]] = set()
+        # The messages that are shown of the settings' file, which are for nobody else.
+        self.of_settings: list[str] = []
+
+    def new_server(self) -> Server:
+        """A server that doesn't run yet."""
+        return Server(self.from_server, self.ended)
+
+    def keep(self, work: Coroutine[Any, Any, None]) -> None:
+        """Does some work beside."""
+        task = asyncio.create_task(work)
+        self.tasks.add(task)
+        task.add_done_callback(self.tasks.discard)
+
+    async def begin(self) -> None:
+        """Starts the server. The page is told what it can."""
+        can = await self.server.start(*self.words)
+        self.put(written({"capabilities": can["capabilities"]}))
+
+    async def finish(self) -> None:
+        """Ends the server, and all work."""
+        for task in list(self.tasks):
+            task.cancel()
+        await self.server.stop()
+
+    def put(self, content: bytes) -> None:
+        """Hands a content to the page."""
+        self.send_to_page(b'{"from":"%s","message":%s}' % (self.name.encode(), content))
+
+    def from_server(self, content: bytes) -> None:
+        """Hands on what the server sends, but for what it shows of the settings."""
+        if SHOWN in content[:60]:
+            text = str(member(json.loads(content), "params", "message"))
+            if "grammar.toml" in text:
+                self.of_settings.append(text)
+                return
+        self.put(content)
+
+    def ended(self, status: int) -> None:
+        """The server has ended by itself: starts it again."""
+        self.starts += 1
+        if self.starts <= MOST_STARTS:
+            self.keep(self.start_again(how_it_ended(status)))
+
+    async def start_again(self, how: str) -> None:
+        """Starts a server in the place of one that has ended. The page opens its text again then."""
+        self.server = self.new_server()
+        with contextlib.suppress(Gone, OSError):
+            await self.begin()
+            words = f"what looks at the {self.name} ended {how}; it was started again, and nothing was lost"
+            self.put(written({"restarted": words}))
+            await asyncio.sleep(SECONDS)
+            self.starts = 0
+
+    async def edited(self, params: Any) -> Any:
+        """The result of `lrls/edit`: the last edit's numbers, and how long it took, which only is known here."""
+        took = self.server.took
+        return {**await self.server.ask("lr/stats", params), "milliseconds": round(took * 1000, 3)}
+
+    async def reply(self, number: int, work: Coroutine[Any, Any, Any]) -> None:
+        """Replies to a request with what some work results in, or why it is refused."""
+        try:
+            self.put(written({"jsonrpc": "2.0", "id": number, "result": await work}))
+        except Refused as refused:
+            error = {"code": refused.code, "message": str(refused)}
+            self.put(written({"jsonrpc": "2.0", "id": number, "error": error}))
+        except Gone:
+            error = {"code": -32803, "message": "the server has ended"}
+            self.put(written({"jsonrpc": "2.0", "id": number, "error": error}))
+
+
+class Page:
+    """One page: its two parts, and the folder that its grammar is in."""
+
+    def __init__(self, programs: Programs, send: Send) -> None:
+        self.programs, self.send = programs, send
         self.folder = Path(tempfile.mkdtemp(prefix="lrls-page-"))
-        self.source = Source(self.folder / "grammar.lr", self.folder / "grammar.toml")
-        self.write(EMPTY)
-        self.send = send
-        lr = Source(GRAMMARS / "lr.lr", GRAMMARS / "lr.toml")
-        self.servers = {
-            "text": PageServer("text", program, self.source, send),
-            "grammar": PageServer("grammar", program, lr, send),
+        self.grammar, self.settings = self.folder / "grammar.lr", self.folder / "grammar.toml"
+        self.write(self.grammar, EMPTY)
+        self.text = Part("text", [programs.ide, str(self.grammar)], send)
+        self.parts = {
+            "text": self.text,
+            "grammar": Part("grammar", [programs.ide, str(GRAMMARS / "lr.lr")], send),
         }
         self.lock = asyncio.Lock()
         self.languages = languages()
-        # The last grammar without a fault, and the language whose settings it has.
-        self.good: tuple[str, str | None] = EMPTY, None
 
     async def begin(self) -> None:
-        """Starts both servers, as an editor does."""
-        for server in self.servers.values():
-            await server.begin()
-            params: dict[str, Any] = {"capabilities": {}}
-            hello = {"jsonrpc": "2.0", "id": 0, "method": "initialize", "params": params}
-            server.from_editor(written(hello))
-            await server.is_ready.wait()
+        """Starts both parts."""
+        await asyncio.gather(*(part.begin() for part in self.parts.values()))
         self.send(written({"from": "page", "languages": sorted(self.languages)}))
 
     async def end(self) -> None:
-        """Ends both servers, and takes the folder away."""
-        ends = (server.finish() for server in self.servers.values())
+        """Ends both parts, and takes the folder away."""
+        ends = (part.finish() for part in self.parts.values())
         await asyncio.gather(*ends, return_exceptions=True)
         shutil.rmtree(self.folder, ignore_errors=True)
 
@@ -248,74 +191,90 @@ class Page:
         if to == "page":
             self.load(message)
         elif to in ("text", "grammar"):
-            self.hand_on(self.servers[to], message.get("message"))
+            self.hand_on(self.parts[to], message.get("message"))
         else:
             raise BadMessage("to no part of the page")
 
-    def hand_on(self, server: PageServer, message: Any) -> None:
-        """Hands a message to a server, where a page may send it."""
+    def hand_on(self, part: Part, message: Any) -> None:
+        """Hands a message to the server of a part, where a page may send it."""
         if not isinstance(message, dict) or message.get("jsonrpc") != "2.0":
             raise BadMessage("no message of the protocol")
-        method, params = message.get("method"), message.get("params")
-        is_asked = is_version(message.get("id"))
-        if method == OF_GRAMMAR and is_asked and server.name == "text":
-            server.keep(self.answer_grammar(server, message["id"], params))
+        method, params, number = message.get("method"), message.get("params"), id_of(message)
+        if method == OF_GRAMMAR and number is not None and part is self.text:
+            part.keep(part.reply(number, self.judged(params)))
             return
         is_note = method in NOTES and "id" not in message
-        is_known = is_note or method in (*METHODS, *OF_PAGE, *ASKED) and is_asked
-        if not is_known or member(params, "textDocument", "uri") != f"page:{server.name}":
+        is_asked = method in (*ASKED, OF_EDIT) and number is not None
+        if not (is_note or is_asked) or member(params, "textDocument", "uri") != f"page:{part.name}":
             raise BadMessage("a method, an id or a document that no page has")
         try:
-            server.from_editor(written(message))
+            content = written(message)
         except UnicodeEncodeError:
             raise BadMessage("half of a pair of units is no character") from None
+        if method == OF_EDIT and number is not None:
+            part.keep(part.reply(number, part.edited(params)))
+        elif is_note:
+            part.server.change(content)
+        else:
+            part.server.send(content)
 
-    async def answer_grammar(self, server: PageServer, number: int, params: Any) -> None:
-        """Answers `lrls/grammar`."""
-        try:
-            text, language = member(params, "text"), member(params, "language")
-            if not isinstance(text, str) or not isinstance(language, str | None):
-                raise INVALID_PARAMS
-            async with self.lock:
-                result = await self.use(server, text, language)
-            server.send({"jsonrpc": "2.0", "id": number, "result": result})
-        except Refused as refused:
-            server.refuse(number, refused)
+    async def judged(self, params: Any) -> dict[str, Any]:
+        """The result of `lrls/grammar`."""
+        text, language = member(params, "text"), member(params, "language")
+        if not isinstance(text, str) or not isinstance(language, str | None):
+            raise INVALID_PARAMS
+        async with self.lock:
+            return await self.use(text, language)
 
-    async def use(self, server: PageServer, text: str, language: str | None) -> dict[str, Any]:
-        """Serves a grammar, if it has no fault; else its file is that of the last one again, for a
-        core that has to be started. The settings of a language of the menu go with its grammar, as
-        long as they fit."""
+    async def use(self, text: str, language: str | None) -> dict[str, Any]:
+        """Has the text looked at by a grammar, if that has no fault. The settings of a language of the menu go with its grammar,
+        as long as they fit."""
         same = (name for name, grammar in self.languages.items() if grammar == text)
         language = next(same, language)
+        fault = await self.fault_of(text)
+        if fault is not None:
+            return {"fault": told(fault, text), "language": language}
         self.take_settings(language)
-        self.write(text)
-        await server.start_again(None)
-        if server.trouble is not None:
-            fault = told(server.trouble, text)
-            self.take_settings(self.good[1])
-            self.write(self.good[0])
-            return {"fault": fault, "language": language}
-        self.good = text, language if self.source.settings.is_file() else None
-        with contextlib.suppress(Gone, Refused):
-            # The diagnostics of the text come before this answer.
-            assert server.core
-            await server.core.ask("lr/stats", TEXT)
-        return {"fault": None, "language": self.good[1]}
+        self.write(self.grammar, text)
+        self.text.of_settings.clear()
+        await self.is_read()
+        if self.text.of_settings:
+            # They are another grammar's.
+            self.settings.unlink(missing_ok=True)
+            await self.is_read()
+        return {"fault": None, "language": language if self.settings.is_file() else None}
 
-    def write(self, grammar: str) -> None:
-        """The file of the grammar has this text."""
-        self.source.grammar.write_bytes(grammar.encode("utf-8", "surrogatepass"))
+    async def fault_of(self, text: str) -> GrammarFault | None:
+        """The fault of a grammar, if it has one."""
+        path = self.folder / "checked.lr"
+        self.write(path, text)
+        try:
+            status, printed = await run(self.programs.lrls, "check", str(path))
+        except OSError as error:
+            return GrammarFault(why_not_started(self.programs.lrls, error))
+        if status == 0:
+            return None
+        return read_fault(printed or f"checking it ended {how_it_ended(status)}", path)
+
+    async def is_read(self) -> None:
+        """Waits until the server of the text has read its files, and has published what they say of the text."""
+        with contextlib.suppress(Gone, Refused):
+            await self.text.server.ask("lr/stats", {"textDocument": {"uri": TEXT}})
+
+    def write(self, path: Path, grammar: str) -> None:
+        """A file gets this text, all at once."""
+        new = path.with_suffix(".new")
+        new.write_bytes(grammar.encode("utf-8", "surrogatepass"))
+        new.replace(path)
 
     def take_settings(self, language: str | None) -> None:
         """The settings are those of this language of the menu; none, where it has none."""
         settings = GRAMMARS / f"{language}.toml"
         if language not in self.languages or not settings.is_file():
-            self.source.settings.unlink(missing_ok=True)
+            self.settings.unlink(missing_ok=True)
             return
         lines = text_of(settings).split("\n")
-        kept = [line for line in lines if not line.startswith("grammar =")]
-        self.source.settings.write_text("\n".join(kept), encoding="utf-8")
+        self.write(self.settings, "\n".join(line for line in lines if not line.startswith("grammar =")))
 
     def load(self, message: dict[str, Any]) -> None:
         """Sends a grammar of the menu, and its sample."""
@@ -375,9 +334,9 @@ class Process:
             print(f"lrls-playground: {type(error).__name__}: {error}", file=sys.stderr)
             self.refuse("it can't be handled")
 
-    async def run(self, program: str) -> None:
+    async def run(self, programs: Programs) -> None:
         """Serves the page to its end."""
-        self.page = Page(program, self.send)
+        self.page = Page(programs, self.send)
         asyncio.get_running_loop().add_signal_handler(signal.SIGTERM, self.ended.set)
         try:
             await self.page.begin()
@@ -388,13 +347,13 @@ class Process:
             await self.out.close()
 
 
-async def serve(program: str) -> None:
+async def serve(programs: Programs) -> None:
     """Serves a page on standard input and output."""
     out = await Writer.on(1)
     process = Process(out)
     out.is_lost.add_done_callback(lambda _: process.ended.set())
-    await process.run(program)
+    await process.run(programs)
 
 
 if __name__ == "__main__":
-    asyncio.run(serve(sys.argv[1]))
+    asyncio.run(serve(Programs(sys.argv[1], sys.argv[2])))

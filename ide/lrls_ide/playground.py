@@ -9,6 +9,7 @@ import json
 import os
 import secrets
 import signal
+import subprocess
 import sys
 import tempfile
 import time
@@ -18,10 +19,9 @@ from typing import Any, Iterator
 
 from aiohttp import WSMsgType, web
 
-from . import core
-from .core import IDE
 from .frames import Decoder, framed
 from .page import BAD
+from .programs import GRAMMARS, IDE, Programs, found, why_not_started
 
 ASSETS = IDE / "playground"
 CODEMIRROR = Path("/usr/share/javascript/codemirror")
@@ -66,8 +66,8 @@ class Allowance:
 class Playground:
     """The web server of the pages. Its address has a key that nobody else knows."""
 
-    def __init__(self, program: str) -> None:
-        self.program = program
+    def __init__(self, programs: Programs) -> None:
+        self.programs = programs
         self.key = secrets.token_urlsafe(16)
         self.port = 0
         self.open_pages = 0
@@ -116,7 +116,7 @@ class Playground:
         return web.FileResponse(path)
 
     async def socket(self, request: web.Request) -> web.StreamResponse:
-        """The socket of a page, whose cores end with it."""
+        """The socket of a page, whose servers end with it."""
         origin = request.headers.get("Origin", "")
         if origin not in (f"http://{HOST}:{self.port}", f"http://localhost:{self.port}"):
             raise web.HTTPForbidden(text="a socket is for the page itself\n")
@@ -149,7 +149,7 @@ class Playground:
     async def started(self) -> asyncio.subprocess.Process:
         """The process of a page. An interrupt from the keyboard is for this one alone."""
         pipe = asyncio.subprocess.PIPE
-        words = [sys.executable, "-BP", "-m", "lrls_ide.page", self.program]
+        words = [sys.executable, "-BP", "-m", "lrls_ide.page", self.programs.lrls, self.programs.ide]
         environment = {**os.environ, "PYTHONPATH": str(IDE)}
         return await asyncio.create_subprocess_exec(
             *words, stdin=pipe, stdout=pipe, env=environment, start_new_session=True
@@ -206,12 +206,13 @@ def arguments() -> argparse.Namespace:
     parser.add_argument("--port", type=int, default=0, help="the port, where it shall not be any free one")
     parser.add_argument("--open", action="store_true", help="opens the page in the browser")
     parser.add_argument("--core", metavar="PROGRAM", help="the program `lrls`, where another one than that beside is wanted")
+    parser.add_argument("--server", metavar="PROGRAM", help="the program `lrls-ide`, where another one than that beside is wanted")
     return parser.parse_args()
 
 
-async def serve(given: argparse.Namespace, program: str) -> None:
-    """Serves pages until the program is ended. Then it closes them, so that their folders and cores go too."""
-    playground = Playground(program)
+async def serve(given: argparse.Namespace, programs: Programs) -> None:
+    """Serves pages until the program is ended. Then it closes them, so that their folders and servers go too."""
+    playground = Playground(programs)
     runner = web.AppRunner(playground.application(), access_log=None)
     await runner.setup()
     site = web.TCPSite(runner, HOST, given.port)
@@ -247,13 +248,15 @@ def main() -> int:
     if not CODEMIRROR.is_dir():
         print("lrls-playground: CodeMirror is missing: apt install libjs-codemirror", file=sys.stderr)
         return 1
-    program = os.path.abspath(given.core) if given.core and os.sep in given.core else given.core or core.program()
+    programs = found(given.core, given.server)
     try:
-        asyncio.run(core.run(program, "check", str(IDE.parent / "grammars" / "lr.lr")))
-        asyncio.run(serve(given, program))
+        for program, word in ((programs.lrls, "check"), (programs.ide, "--settings")):
+            # A script makes its program first, and says how far it is.
+            subprocess.run([program, word, str(GRAMMARS / "lr.lr")], stdout=subprocess.DEVNULL, check=False)
+        asyncio.run(serve(given, programs))
     except OSError as error:
-        named = error.filename == program or isinstance(error, (FileNotFoundError, PermissionError))
-        print(f"lrls-playground: {core.why_not_started(program, error) if named else error}", file=sys.stderr)
+        named = error.filename in (programs.lrls, programs.ide)
+        print(f"lrls-playground: {why_not_started(error.filename, error) if named else error}", file=sys.stderr)
         return 1
     except KeyboardInterrupt:
         pass

@@ -9,6 +9,8 @@ const LOST = {
   "too large": "more than 1,048,576 bytes: it isn't looked at until it is shorter",
   "no memory": "too little memory for it: it isn't looked at until it is shorter",
 };
+// A longer text has more bytes than the server takes.
+const MOST_UNITS = 1_048_576;
 const LEAVE = "Escape, then Tab leaves it";
 
 export class Editor {
@@ -69,6 +71,13 @@ export class Editor {
     this.lookSoon();
   }
 
+  // A text that the server has lost is opened again, once it is short enough.
+  openAgain() {
+    if (this.text().length > MOST_UNITS) return;
+    this.link.notify(this.name, "textDocument/didClose", { textDocument: this.document });
+    this.open(this.link);
+  }
+
   // Half of a pair of units is no character to the server.
   makeWellFormed(change) {
     const lines = change.text.map((line) => line.replace(/\p{Surrogate}/gu, "\ufffd"));
@@ -82,6 +91,7 @@ export class Editor {
   }
 
   tell(changes) {
+    if (this.lost) return this.openAgain();
     this.version += 1;
     const contentChanges = changes.map(({ from, to, text }) => ({
       range: { start: position(from), end: position(to) },

@@ -26,6 +26,15 @@ export class Link {
     else waiting.answer(message.result);
   }
 
+  // Nobody answers any more what a server was asked.
+  drop(server) {
+    for (const [key, { refuse }] of this.waiting) {
+      if (!key.startsWith(`${server} `)) continue;
+      this.waiting.delete(key);
+      refuse(new Error("the server has ended"));
+    }
+  }
+
   send(envelope) {
     if (this.socket.readyState === WebSocket.OPEN) this.socket.send(JSON.stringify(envelope));
   }

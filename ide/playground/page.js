@@ -74,9 +74,15 @@ function receive({ from, message, languages, loaded, ...rest }) {
   else if (method === "textDocument/publishDiagnostics") published(editor, params);
   else if (method === "window/logMessage") editor.logged(params.message);
   else if (method === "window/showMessage") tell(params.message);
-  else if (message?.result?.capabilities) {
-    editor.types = message.result.capabilities.semanticTokensProvider.legend.tokenTypes;
-  }
+  else if (message?.capabilities) editor.types = message.capabilities.semanticTokensProvider.legend.tokenTypes;
+  else if (message?.restarted) reopen(editor, message.restarted);
+}
+
+// The server of an editor has ended, and another one runs.
+function reopen(editor, told) {
+  link.drop(editor.name);
+  editor.open(link);
+  tell(told);
 }
 
 function published(editor, params) {

@@ -20,8 +20,9 @@ export class TokenList {
 
   async refresh() {
     const { from, to } = this.editor.code.getViewport();
+    const range = { start: { line: from, character: 0 }, end: { line: to, character: 0 } };
     try {
-      const { version, rows } = await this.editor.ask("lrls/tokens", { first: from, last: to });
+      const { version, rows } = await this.editor.ask("lrls/tokens", { range });
       if (version !== this.editor.version) return;
       this.rows.replace(rows.map((row) => this.row(row)));
       this.mark();

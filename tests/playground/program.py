@@ -25,9 +25,10 @@ class Playground:
         environment = {**os.environ, "TMPDIR": self.folder, **variables}
         # What it says on standard error, which has to be nothing.
         self.said = tempfile.TemporaryFile("w+")
-        core = ["--core", serving.PROGRAM] if serving.IS_QUICK else []
+        programs = ["--core", serving.PROGRAM, "--server", serving.made("lrls-ide")]
+        named = programs if serving.IS_QUICK else []
         self.process = subprocess.Popen(
-            [PROGRAM, *core, *words],
+            [PROGRAM, *named, *words],
             stdout=subprocess.PIPE,
             stderr=self.said,
             text=True,
@@ -49,7 +50,7 @@ class Playground:
         return len(self.processes()), len(os.listdir(self.folder))
 
     def processes(self) -> List[int]:
-        """The processes of pages, each with its cores."""
+        """The processes of pages, each with its servers."""
         while True:
             # A process may end while those that it has started are looked for.
             with contextlib.suppress(FileNotFoundError, ProcessLookupError):

@@ -165,12 +165,12 @@ def playground(cases: Cases, top: str) -> None:
     """The limits of the playground are on its page."""
     page = " ".join(text_of(top, "docs", "IDE.md").split())
     there = numbers(text_of(top, "ide", "lrls_ide", "playground.py"))
-    of_core = numbers(text_of(top, "ide", "lrls_ide", "page.py"))
+    each = numbers(text_of(top, "ide", "lrls_ide", "programs.py"))
     for said in (
         f"messages of at most {there['MOST_BYTES'] >> 20} MiB, {there['MOST_AT_ONCE']:,} at once "
         f"and {there['MOST_A_SECOND']} in a second",
         f"at most {there['MOST_PAGES']} pages",
-        f"at most {of_core['MEMORY'] >> 30} GiB of memory and {of_core['SECONDS']} seconds",
+        f"at most {each['MEMORY'] >> 30} GiB of memory and {each['SECONDS']} seconds",
     ):
         cases.check("docs/IDE.md: a limit of the playground", said, said if said in page else "")
 
