@@ -20,6 +20,19 @@ PIECES = {
 }
 # How often a text has the sample of its language: a copy that follows passes over most of it.
 COPIES = 6
+# How many characters an edit is mostly away from one before.
+NEAR = 60
+
+
+class Nearby(Edited):
+    """A text whose edits mostly come near one another, so that what mends a fault depends on
+    those before and behind it."""
+
+    def place(self) -> int:
+        if not self.undo or self.choice.random() < 0.2:
+            return super().place()
+        start = self.undo[-1][0] + self.choice.randint(-NEAR, NEAR)
+        return min(max(start, 0), len(self.text))
 
 
 def text_of(language: str) -> str:
@@ -42,7 +55,7 @@ def told(client: Client, version: int) -> Dict[str, Any]:
 def followed(cases: Cases, _: str) -> None:
     """A copy that follows edits says what one says that is made anew."""
     for seed, (language, pieces) in enumerate(PIECES.items(), 1):
-        edited = Edited(random.Random(seed), text_of(language), pieces)
+        edited = Nearby(random.Random(seed), text_of(language), pieces)
         behind = 0
         with Client(language) as client, Client(language) as fresh:
             client.open(URI, edited.text)

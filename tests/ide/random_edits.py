@@ -40,12 +40,16 @@ class Edited:
         self.text = sample
         self.undo: List[Undo] = []
 
+    def place(self) -> int:
+        """Where the next edit begins."""
+        return self.choice.randint(0, len(self.text))
+
     def edit(self) -> Dict[str, object]:
         """The next change."""
         if self.undo and self.choice.random() < 0.5 or len(self.undo) > 40:
             start, end, new = self.undo.pop()
         else:
-            start = self.choice.randint(0, len(self.text))
+            start = self.place()
             end = min(len(self.text), start + self.choice.choice([0, 0, 0, 1, 1, 4, 20]))
             new = self.choice.choice(["", *self.pieces])
             start, end = self.outside(start), self.outside(end)
