@@ -7,7 +7,7 @@ ghost use Rattle.mending.specs.Mendings.{IsMendingOf};
 use crate::ranks::{CLOSING, NAME, OPENING, SIGN, WORD};
 use definitions::Kind;
 use grammar::Grammar;
-use mending::{Listed, Mending, Rank};
+use mending::{Change, Listed, Mending, Rank};
 use std::alloc::Global;
 use std::process::Abort;
 use tables::Tables;
@@ -59,6 +59,21 @@ Atom = NAME LP RP
 Atom = NAME LP Arguments RP
 Arguments = Sum
 Arguments = Arguments COMMA Sum
+"#;
+
+/// Two beginnings of a text, of which the second one has another end too.
+const BEGINNINGS: &str = r#"lrgrammar 2
+token LONG = "long"
+token SHORT = "short"
+token NAME = "name"
+token COLON = ":"
+token COMMA = ","
+token DOT = "."
+token END = "end"
+start Text
+Text = LONG NAME* COLON COMMA END
+Text = SHORT NAME* COLON COMMA END
+Text = SHORT NAME* DOT END
 "#;
 
 /// Numbers that look random (Knuth, "The Art of Computer Programming", 3.3.4).
@@ -259,4 +274,45 @@ fn copies_of_blocks_follow_edits(rt: HostRuntime) {
         between: None,
     };
     follow_edits(&rt, rt.alloc(), tried, 400, 3);
+}
+
+/// The kinds with this rule in the place of the first one.
+fn beginning_with(rt: &impl Abort, alloc: Global, kinds: &[Kind], rule: usize) -> Vec<Kind> {
+    let mut new = Vec::with_capacity(alloc, kinds.len()).expect(rt, "memory");
+    add(rt, &mut new, &[rule]);
+    new.extend_from_slice(kinds.get(1..).unwrap_or(&[]))
+        .expect(rt, "memory");
+    new
+}
+
+/// The copy has one repair, of these changes.
+fn assert_changed(rt: &impl Abort, mending: &Mending, changes: &[Change]) {
+    assert!(rt; mending.repairs().len() == 1);
+    assert!(rt; mending.repairs()[0].changes.as_slice() == changes);
+}
+
+#[test]
+fn a_repair_far_behind_an_edit_is_found_anew_on_another_stack(rt: HostRuntime) {
+    let alloc = rt.alloc();
+    let grammar = Grammar::read(alloc, BEGINNINGS).expect(&rt, "a grammar");
+    let tables = Tables::build(alloc, &grammar).expect(&rt, "tables");
+    let tried = Tried {
+        tables: &tables,
+        ranks: &[WORD, WORD, NAME, CLOSING, CLOSING, SIGN, CLOSING],
+        pieces: &[],
+        between: None,
+    };
+    let mut long = Vec::new(alloc);
+    add(&rt, &mut long, &[0]);
+    for _ in 0..400 {
+        add(&rt, &mut long, &[2]);
+    }
+    add(&rt, &mut long, &[6]);
+    let short = beginning_with(&rt, alloc, &long, 1);
+    let mut mending = anew(&rt, alloc, tried, &long);
+    assert_changed(&rt, &mending, &[Change::PutIn(3), Change::PutIn(4)]);
+    mending = follow(&rt, alloc, tried, mending, &short);
+    assert_changed(&rt, &mending, &[Change::PutIn(5)]);
+    mending = follow(&rt, alloc, tried, mending, &long);
+    assert_changed(&rt, &mending, &[Change::PutIn(3), Change::PutIn(4)]);
 }
