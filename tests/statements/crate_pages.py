@@ -29,7 +29,6 @@ NOT_RUN = (
     "questions",
     "remedies",
     "reopening",
-    "serving",
     "settings",
     "settings_files",
     "shown",

@@ -94,7 +94,8 @@ fn of_language(rt: &HostRuntime, alloc: Global) -> Option<()> {
     of_document(rt, alloc)?;
     programs::use_sessions(rt)?;
     programs::use_server(rt, alloc)?;
-    programs::use_commands(rt, alloc)
+    programs::use_commands(rt, alloc)?;
+    programs::use_serving(rt, alloc)
 }
 
 fn main(rt: HostRuntime) -> ExitCode {
