@@ -11,26 +11,26 @@ import tempfile
 from pathlib import Path
 from typing import Any, Callable, Coroutine
 
-from .faults import GrammarFault, read_fault, text_of
 from .frames import Decoder, framed, written
-from .programs import GRAMMARS, Programs, how_it_ended, run, why_not_started
+from .programs import GRAMMARS, how_it_ended
 from .server import Gone, Refused, Server
 from .streams import Reader, Writer
 
 TEXT = "page:text"
-# The methods that a page may send.
+# The methods that a page may send to a server, and those of them that are about no document.
 NOTES = ("textDocument/didOpen", "textDocument/didChange", "textDocument/didClose")
-ASKED = ("textDocument/foldingRange", "textDocument/semanticTokens/range", "lrls/nodes", "lrls/tokens")
-OF_EDIT, OF_GRAMMAR = "lrls/edit", "lrls/grammar"
+ASKED = ("textDocument/foldingRange", "textDocument/semanticTokens/range", "lr/stats", "lrls/nodes", "lrls/tokens")
+ABOUT_NONE = ("lrls/grammar",)
+# The method that this process answers itself.
+PLACED = "page/place"
 # So many bytes wait for a page that doesn't take them.
 MOST_WAITING = 64 << 20
 # So often a server that ends is started again, and within so many seconds the next end counts as the same trouble.
 MOST_STARTS, SECONDS = 3, 10
-EMPTY = 'lrgrammar 2\ntoken X = "x"\nstart S\nS = X*\n'
+EMPTY = b'lrgrammar 2\ntoken X = "x"\nstart S\nS = X*\n'
 # What the web server reads of a page that must not go on.
 BAD = b'{"from":"page","bad":'
 SHOWN = b"window/showMessage"
-INVALID_PARAMS = Refused(-32602, "Invalid params")
 
 Send = Callable[[bytes], None]
 
@@ -50,23 +50,12 @@ def id_of(message: dict[str, Any]) -> int | None:
     return value if 0 <= value < 1 << 31 else None
 
 
-def told(fault: GrammarFault, text: str) -> dict[str, Any]:
-    """A grammar's fault as the page is told it, and of a conflict its two moves."""
-    found = {"range": fault.range(text), "message": fault.message, "hint": fault.hint}
-    if not fault.items:
-        return {**found, "conflict": None}
-    moves = [
-        {
-            "move": "reduce" if item.is_whole() else "shift",
-            "left": item.left,
-            "symbols": item.symbols(),
-            "dot": item.right.index("."),
-            "look": item.look,
-            "line": line,
-        }
-        for item, line in zip(fault.items, fault.lines)
-    ]
-    return {**found, "conflict": {"token": fault.token, "after": fault.after, "moves": moves}}
+def text_of(path: Path) -> str:
+    """The text of a file, as far as it can be read."""
+    try:
+        return path.read_text(encoding="utf-8", errors="replace")
+    except OSError:
+        return ""
 
 
 class BadMessage(Exception):
@@ -135,35 +124,19 @@ class Part:
             await asyncio.sleep(SECONDS)
             self.starts = 0
 
-    async def edited(self, params: Any) -> Any:
-        """The result of `lrls/edit`: the last edit's numbers, and how long it took, which only is known here."""
-        took = self.server.took
-        return {**await self.server.ask("lr/stats", params), "milliseconds": round(took * 1000, 3)}
-
-    async def reply(self, number: int, work: Coroutine[Any, Any, Any]) -> None:
-        """Replies to a request with what some work results in, or why it is refused."""
-        try:
-            self.put(written({"jsonrpc": "2.0", "id": number, "result": await work}))
-        except Refused as refused:
-            error = {"code": refused.code, "message": str(refused)}
-            self.put(written({"jsonrpc": "2.0", "id": number, "error": error}))
-        except Gone:
-            error = {"code": -32803, "message": "the server has ended"}
-            self.put(written({"jsonrpc": "2.0", "id": number, "error": error}))
-
 
 class Page:
     """One page: its two parts, and the folder that its grammar is in."""
 
-    def __init__(self, programs: Programs, send: Send) -> None:
-        self.programs, self.send = programs, send
+    def __init__(self, program: str, send: Send) -> None:
+        self.send = send
         self.folder = Path(tempfile.mkdtemp(prefix="lrls-page-"))
         self.grammar, self.settings = self.folder / "grammar.lr", self.folder / "grammar.toml"
         self.write(self.grammar, EMPTY)
-        self.text = Part("text", [programs.ide, str(self.grammar)], send)
+        self.text = Part("text", [program, str(self.grammar)], send)
         self.parts = {
             "text": self.text,
-            "grammar": Part("grammar", [programs.ide, str(GRAMMARS / "lr.lr")], send),
+            "grammar": Part("grammar", [program, str(GRAMMARS / "lr.lr")], send),
         }
         self.lock = asyncio.Lock()
         self.languages = languages()
@@ -187,11 +160,13 @@ class Page:
             raise BadMessage("no JSON") from None
         if not isinstance(message, dict):
             raise BadMessage("no object")
-        to = message.get("to")
-        if to == "page":
+        to, given = message.get("to"), message.get("message")
+        if to == "page" and given is None:
             self.load(message)
+        elif to == "page":
+            self.place(given)
         elif to in ("text", "grammar"):
-            self.hand_on(self.parts[to], message.get("message"))
+            self.hand_on(self.parts[to], given)
         else:
             raise BadMessage("to no part of the page")
 
@@ -200,71 +175,61 @@ class Page:
         if not isinstance(message, dict) or message.get("jsonrpc") != "2.0":
             raise BadMessage("no message of the protocol")
         method, params, number = message.get("method"), message.get("params"), id_of(message)
-        if method == OF_GRAMMAR and number is not None and part is self.text:
-            part.keep(part.reply(number, self.judged(params)))
-            return
         is_note = method in NOTES and "id" not in message
-        is_asked = method in (*ASKED, OF_EDIT) and number is not None
-        if not (is_note or is_asked) or member(params, "textDocument", "uri") != f"page:{part.name}":
+        is_asked = method in ASKED and number is not None
+        is_about_it = (is_note or is_asked) and member(params, "textDocument", "uri") == f"page:{part.name}"
+        if not is_about_it and (method not in ABOUT_NONE or number is None):
             raise BadMessage("a method, an id or a document that no page has")
         try:
-            content = written(message)
+            part.server.send(written(message))
         except UnicodeEncodeError:
             raise BadMessage("half of a pair of units is no character") from None
-        if method == OF_EDIT and number is not None:
-            part.keep(part.reply(number, part.edited(params)))
-        elif is_note:
-            part.server.change(content)
-        else:
-            part.server.send(content)
 
-    async def judged(self, params: Any) -> dict[str, Any]:
-        """The result of `lrls/grammar`."""
-        text, language = member(params, "text"), member(params, "language")
+    def place(self, message: Any) -> None:
+        """Has the text looked at by another grammar, as the page asks."""
+        number = id_of(message) if isinstance(message, dict) else None
+        text, language = member(message, "params", "text"), member(message, "params", "language")
+        if member(message, "method") != PLACED or number is None:
+            raise BadMessage("no request to the page")
         if not isinstance(text, str) or not isinstance(language, str | None):
-            raise INVALID_PARAMS
-        async with self.lock:
-            return await self.use(text, language)
+            raise BadMessage("no grammar to put in place")
+        try:
+            grammar = text.encode()
+        except UnicodeEncodeError:
+            raise BadMessage("half of a pair of units is no character") from None
+        self.text.keep(self.placed(number, grammar, language))
 
-    async def use(self, text: str, language: str | None) -> dict[str, Any]:
-        """Has the text looked at by a grammar, if that has no fault. The settings of a language of the menu go with its grammar,
-        as long as they fit."""
-        same = (name for name, grammar in self.languages.items() if grammar == text)
+    async def placed(self, number: int, grammar: bytes, language: str | None) -> None:
+        """Puts a grammar in place, and tells the page which language's settings are used with it."""
+        async with self.lock:
+            used = await self.use(grammar, language)
+        result = {"jsonrpc": "2.0", "id": number, "result": {"language": used}}
+        self.send(written({"from": "page", "message": result}))
+
+    async def use(self, grammar: bytes, language: str | None) -> str | None:
+        """Has the text looked at by a grammar. The settings of a language of the menu go with its grammar, as long as they fit:
+        returns its name, where it has settings and they do."""
+        same = (name for name, text in self.languages.items() if text.encode() == grammar)
         language = next(same, language)
-        fault = await self.fault_of(text)
-        if fault is not None:
-            return {"fault": told(fault, text), "language": language}
         self.take_settings(language)
-        self.write(self.grammar, text)
+        self.write(self.grammar, grammar)
         self.text.of_settings.clear()
         await self.is_read()
         if self.text.of_settings:
             # They are another grammar's.
             self.settings.unlink(missing_ok=True)
             await self.is_read()
-        return {"fault": None, "language": language if self.settings.is_file() else None}
-
-    async def fault_of(self, text: str) -> GrammarFault | None:
-        """The fault of a grammar, if it has one."""
-        path = self.folder / "checked.lr"
-        self.write(path, text)
-        try:
-            status, printed = await run(self.programs.lrls, "check", str(path))
-        except OSError as error:
-            return GrammarFault(why_not_started(self.programs.lrls, error))
-        if status == 0:
-            return None
-        return read_fault(printed or f"checking it ended {how_it_ended(status)}", path)
+        return language if self.settings.is_file() else None
 
     async def is_read(self) -> None:
         """Waits until the server of the text has read its files, and has published what they say of the text."""
         with contextlib.suppress(Gone, Refused):
             await self.text.server.ask("lr/stats", {"textDocument": {"uri": TEXT}})
 
-    def write(self, path: Path, grammar: str) -> None:
-        """A file gets this text, all at once."""
+    def write(self, path: Path, content: bytes) -> None:
+        """A file gets this content, all at once."""
         new = path.with_suffix(".new")
-        new.write_bytes(grammar.encode("utf-8", "surrogatepass"))
+        new.write_bytes(content)
         new.replace(path)
 
     def take_settings(self, language: str | None) -> None:
@@ -274,7 +239,8 @@ class Page:
             self.settings.unlink(missing_ok=True)
             return
         lines = text_of(settings).split("\n")
-        self.write(self.settings, "\n".join(line for line in lines if not line.startswith("grammar =")))
+        kept = "\n".join(line for line in lines if not line.startswith("grammar ="))
+        self.write(self.settings, kept.encode())
 
     def load(self, message: dict[str, Any]) -> None:
         """Sends a grammar of the menu, and its sample."""
@@ -334,9 +300,9 @@ class Process:
             print(f"lrls-playground: {type(error).__name__}: {error}", file=sys.stderr)
             self.refuse("it can't be handled")
 
-    async def run(self, programs: Programs) -> None:
-        """Serves the page to its end."""
-        self.page = Page(programs, self.send)
+    async def run(self, program: str) -> None:
+        """Serves the page to its end, by this `lrls-ide`."""
+        self.page = Page(program, self.send)
         asyncio.get_running_loop().add_signal_handler(signal.SIGTERM, self.ended.set)
         try:
             await self.page.begin()
@@ -347,13 +313,13 @@ class Process:
             await self.out.close()
 
 
-async def serve(programs: Programs) -> None:
-    """Serves a page on standard input and output."""
+async def serve(program: str) -> None:
+    """Serves a page on standard input and output, by this `lrls-ide`."""
     out = await Writer.on(1)
     process = Process(out)
     out.is_lost.add_done_callback(lambda _: process.ended.set())
-    await process.run(programs)
+    await process.run(program)
 
 
 if __name__ == "__main__":
-    asyncio.run(serve(Programs(sys.argv[1], sys.argv[2])))
+    asyncio.run(serve(sys.argv[1]))

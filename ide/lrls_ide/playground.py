@@ -21,7 +21,7 @@ from aiohttp import WSMsgType, web
 
 from .frames import Decoder, framed
 from .page import BAD
-from .programs import GRAMMARS, IDE, Programs, found, why_not_started
+from .programs import GRAMMARS, IDE, found
 
 ASSETS = IDE / "playground"
 CODEMIRROR = Path("/usr/share/javascript/codemirror")
@@ -66,8 +66,8 @@ class Allowance:
 class Playground:
     """The web server of the pages. Its address has a key that nobody else knows."""
 
-    def __init__(self, programs: Programs) -> None:
-        self.programs = programs
+    def __init__(self, program: str) -> None:
+        self.program = program
         self.key = secrets.token_urlsafe(16)
         self.port = 0
         self.open_pages = 0
@@ -149,7 +149,7 @@ class Playground:
     async def started(self) -> asyncio.subprocess.Process:
         """The process of a page. An interrupt from the keyboard is for this one alone."""
         pipe = asyncio.subprocess.PIPE
-        words = [sys.executable, "-BP", "-m", "lrls_ide.page", self.programs.lrls, self.programs.ide]
+        words = [sys.executable, "-BP", "-m", "lrls_ide.page", self.program]
         environment = {**os.environ, "PYTHONPATH": str(IDE)}
         return await asyncio.create_subprocess_exec(
             *words, stdin=pipe, stdout=pipe, env=environment, start_new_session=True
@@ -205,14 +205,13 @@ def arguments() -> argparse.Namespace:
     parser = argparse.ArgumentParser(prog="lrls-playground", description="A page in the browser in which a grammar is written and tried.")
     parser.add_argument("--port", type=int, default=0, help="the port, where it shall not be any free one")
     parser.add_argument("--open", action="store_true", help="opens the page in the browser")
-    parser.add_argument("--core", metavar="PROGRAM", help="the program `lrls`, where another one than that beside is wanted")
     parser.add_argument("--server", metavar="PROGRAM", help="the program `lrls-ide`, where another one than that beside is wanted")
     return parser.parse_args()
 
 
-async def serve(given: argparse.Namespace, programs: Programs) -> None:
-    """Serves pages until the program is ended. Then it closes them, so that their folders and servers go too."""
-    playground = Playground(programs)
+async def serve(given: argparse.Namespace, program: str) -> None:
+    """Serves pages until it is ended. Then it closes them, so that their folders and servers go too."""
+    playground = Playground(program)
     runner = web.AppRunner(playground.application(), access_log=None)
     await runner.setup()
     site = web.TCPSite(runner, HOST, given.port)
@@ -248,15 +247,14 @@ def main() -> int:
     if not CODEMIRROR.is_dir():
         print("lrls-playground: CodeMirror is missing: apt install libjs-codemirror", file=sys.stderr)
         return 1
-    programs = found(given.core, given.server)
+    program = found(given.server)
     try:
-        for program, word in ((programs.lrls, "check"), (programs.ide, "--settings")):
-            # A script makes its program first, and says how far it is.
-            subprocess.run([program, word, str(GRAMMARS / "lr.lr")], stdout=subprocess.DEVNULL, check=False)
-        asyncio.run(serve(given, programs))
+        # A script makes its program first, and says how far it is.
+        subprocess.run([program, "--settings", str(GRAMMARS / "lr.lr")], stdout=subprocess.DEVNULL, check=False)
+        asyncio.run(serve(given, program))
     except OSError as error:
-        named = error.filename in (programs.lrls, programs.ide)
-        print(f"lrls-playground: {why_not_started(error.filename, error) if named else error}", file=sys.stderr)
+        why = f"can't run {program}: {error.strerror}; name another one with --server PROGRAM"
+        print(f"lrls-playground: {why if error.filename == program else error}", file=sys.stderr)
         return 1
     except KeyboardInterrupt:
         pass

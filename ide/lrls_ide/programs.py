@@ -1,11 +1,9 @@
-"""The programs that stand behind a page: `lrls`, which checks grammars, and `lrls-ide`, which looks at texts."""
+"""The program that stands behind a page, `lrls-ide`: where it is, what it may take, and how it ends."""
 
-import asyncio
 import contextlib
 import os
 import resource
 import signal
-from dataclasses import dataclass
 from pathlib import Path
 
 IDE = Path(__file__).resolve().parent.parent
@@ -14,35 +12,16 @@ GRAMMARS = IDE.parent / "grammars"
 MEMORY, SECONDS = 1 << 30, 300
 
 
-@dataclass(frozen=True)
-class Programs:
-    """Both programs. What they are run with comes behind their names."""
-
-    lrls: str
-    ide: str
-
-
-def beside(built: str, script: Path, name: str) -> str:
-    """A program that stands beside this folder: in the repository the built one or the script that builds it, and where it is
-    installed that of `bin`."""
-    in_repository = IDE.parent / "crates" / built / "out" / built
-    for path in (in_repository, script, IDE.parent.parent.parent / "bin" / name):
+def found(program: str | None) -> str:
+    """The `lrls-ide` that is named, wherever it is run, and else the one that stands beside this folder: in the repository the
+    built one or the script that builds it, and where it is installed that of `bin`."""
+    if program:
+        return os.path.abspath(program) if os.sep in program else program
+    in_repository = IDE.parent / "crates" / "lrls_ide" / "out" / "lrls_ide"
+    for path in (in_repository, IDE / "lrls-ide", IDE.parent.parent.parent / "bin" / "lrls-ide"):
         if path.is_file() and os.access(path, os.X_OK):
             return str(path)
-    return name
-
-
-def found(lrls: str | None, ide: str | None) -> Programs:
-    """The programs that are named, and else those that stand beside this folder."""
-    return Programs(
-        named(lrls) or beside("lrls", IDE.parent / "lrls", "lrls"),
-        named(ide) or beside("lrls_ide", IDE / "lrls-ide", "lrls-ide"),
-    )
-
-
-def named(program: str | None) -> str | None:
-    """A program that is named, wherever it is run."""
-    return os.path.abspath(program) if program and os.sep in program else program
+    return "lrls-ide"
 
 
 def limit() -> None:
@@ -50,30 +29,6 @@ def limit() -> None:
     resource.setrlimit(resource.RLIMIT_AS, (MEMORY, MEMORY))
     resource.setrlimit(resource.RLIMIT_CPU, (SECONDS, SECONDS))
     resource.setrlimit(resource.RLIMIT_CORE, (0, 0))
-
-
-async def run(program: str, *words: str) -> tuple[int, str]:
-    """Runs a command to its end: its status, and what it prints on standard error."""
-    process = await asyncio.create_subprocess_exec(
-        program,
-        *words,
-        stdin=asyncio.subprocess.DEVNULL,
-        stdout=asyncio.subprocess.DEVNULL,
-        stderr=asyncio.subprocess.PIPE,
-        preexec_fn=limit,
-    )
-    try:
-        _, err = await process.communicate()
-    except asyncio.CancelledError:
-        with contextlib.suppress(ProcessLookupError):
-            process.kill()
-        raise
-    return process.returncode or 0, err.decode(errors="replace")
-
-
-def why_not_started(program: str, error: OSError) -> str:
-    """What to say of a program that can't be run."""
-    return f"can't run {program}: {error.strerror}; name another one with --core PROGRAM or --server PROGRAM"
 
 
 def how_it_ended(status: int) -> str:

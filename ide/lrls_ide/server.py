@@ -6,7 +6,6 @@ import itertools
 import json
 import secrets
 import sys
-import time
 from typing import Any, Callable
 
 from .frames import Decoder, framed, written
@@ -14,7 +13,6 @@ from .programs import limit
 
 # Ids of requests that come from here. No page has them by chance.
 OWN = "page-" + secrets.token_hex(8) + "-"
-PUBLISHED = b"textDocument/publishDiagnostics"
 # The pipe holds so many bytes, where the system lets it.
 PIPE = 1 << 20
 F_SETPIPE_SZ = 1031
@@ -35,7 +33,7 @@ class Refused(Exception):
 
 class Server:
     """A server that runs. `on_message` gets the contents of the frames that reply to no request from here, and `on_end` the
-    status of the process. `took` is how long the last change took, from its sending to what was published then."""
+    status of the process."""
 
     def __init__(self, on_message: Callable[[bytes], None], on_end: Callable[[int], None]) -> None:
         self.on_message, self.on_end = on_message, on_end
@@ -44,7 +42,6 @@ class Server:
         self.process: asyncio.subprocess.Process | None = None
         self.reading: asyncio.Task[None] | None = None
         self.is_ending = False
-        self.changed_at = self.before_at = self.last_at = self.took = 0.0
 
     async def start(self, *words: str) -> dict[str, Any]:
         """Runs the program with these words, and initializes it as an editor does. Returns what it can."""
@@ -74,7 +71,6 @@ class Server:
         assert self.process and self.process.stdout
         decoder = Decoder()
         while data := await self.process.stdout.read(READ):
-            self.before_at, self.last_at = self.last_at, time.perf_counter()
             for content in decoder.feed(data):
                 self.handle(content)
         status = await self.process.wait()
@@ -91,10 +87,8 @@ class Server:
         """Hands a reply to who waits for it, and all else on."""
         if OWN.encode() in content:
             self.replied(json.loads(content))
-            return
-        if PUBLISHED in content[:100]:
-            self.took = self.last_at - max(self.changed_at, self.before_at)
-        self.on_message(content)
+        else:
+            self.on_message(content)
 
     def replied(self, message: dict[str, Any]) -> None:
         """A reply to a request from here has come."""
@@ -110,11 +104,6 @@ class Server:
         """Sends a content. To a server that has ended it is lost."""
         if self.process and self.process.stdin and not self.process.stdin.is_closing():
             self.process.stdin.write(framed(content))
-
-    def change(self, content: bytes) -> None:
-        """Sends a change of a document."""
-        self.changed_at = time.perf_counter()
-        self.send(content)
 
     async def ask(self, method: str, params: Any) -> Any:
         """The result of a request."""

@@ -24,6 +24,9 @@ export class Editor {
     this.diagnostics = [];
     this.note = "";
     this.lost = "";
+    // When the last change was sent, as long as nothing was published for it, and how many milliseconds that took.
+    this.sentAt = null;
+    this.took = 0;
     this.marks = [];
     this.faults = [];
     this.node = null;
@@ -67,6 +70,7 @@ export class Editor {
     this.link = link;
     this.version += 1;
     const document = { ...this.document, languageId: this.name, version: this.version, text: this.text() };
+    this.sentAt = performance.now();
     link.notify(this.name, "textDocument/didOpen", { textDocument: document });
     this.lookSoon();
   }
@@ -97,6 +101,7 @@ export class Editor {
       range: { start: position(from), end: position(to) },
       text: text.join("\n"),
     }));
+    this.sentAt = performance.now();
     this.link.notify(this.name, "textDocument/didChange", {
       textDocument: { ...this.document, version: this.version },
       contentChanges,
@@ -125,6 +130,8 @@ export class Editor {
   // The server has published faults. Without a version it has lost the text, and says why next.
   published({ diagnostics, version }) {
     if (version !== this.version) return;
+    if (this.sentAt !== null) this.took = performance.now() - this.sentAt;
+    this.sentAt = null;
     this.lost = "";
     this.diagnostics = diagnostics;
     this.say();

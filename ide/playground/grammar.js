@@ -51,20 +51,26 @@ export class Grammar {
     this.onJudged(fault);
   }
 
-  // What is wrong with a grammar, or nothing; where nobody answers, or the text was replaced meanwhile, that isn't known.
+  // What is wrong with a grammar, or nothing: then the text is looked at by it. Where nobody answers, or the text was replaced meanwhile, that isn't known.
   async send(text) {
     const { turn } = this;
     this.sent = text;
     try {
-      const { fault, language } = await this.link.request("text", "lrls/grammar", { text, language: this.language });
-      if (!fault) this.served = text;
+      const { fault } = await this.link.request("grammar", "lrls/grammar", { text });
       if (turn !== this.turn) return undefined;
-      if (!fault) this.judging = text;
-      this.language = language;
-      return fault;
+      if (!fault) await this.place(text);
+      return turn === this.turn ? fault : undefined;
     } catch {
       return undefined;
     }
+  }
+
+  // Has the text looked at by this grammar, with the settings of a language of the menu where they fit.
+  async place(text) {
+    const { turn } = this;
+    const { language } = await this.link.request("page", "page/place", { text, language: this.language });
+    this.served = text;
+    if (turn === this.turn) Object.assign(this, { judging: text, language });
   }
 
   // By which grammar the text is looked at, where it isn't the one that stands there.

@@ -33,9 +33,9 @@ let isPutting = false;
 
 const edited = later(80, async () => {
   try {
-    const { scanned, tokens: all, built, branches, milliseconds } = await text.ask("lrls/edit");
+    const { scanned, tokens: all, built, branches } = await text.ask("lr/stats");
     const counts = `scanned ${number(scanned)} of ${number(all)} tokens, built ${number(built)} of ${number(branches)} nodes`;
-    part("made").textContent = `the last edit ${counts}, ${milliseconds.toFixed(2)} ms`;
+    part("made").textContent = `the last edit ${counts}, ${text.took.toFixed(1)} ms`;
   } catch {
     part("made").textContent = "";
   }
@@ -82,6 +82,7 @@ function receive({ from, message, languages, loaded, ...rest }) {
 function reopen(editor, told) {
   link.drop(editor.name);
   editor.open(link);
+  if (editor === grammar) judge.use();
   tell(told);
 }
 

@@ -12,8 +12,8 @@ from tests import TOP
 from tests.common import serving
 from tests.common.cases import Cases
 from tests.common.serving import received
-from tests.ide import behind, crates, faulty, followed, languages, looked_at, sessions, tables
-from tests.ide import trouble
+from tests.ide import behind, crates, faulty, followed, grammar_texts, languages
+from tests.ide import looked_at, sessions, tables, trouble
 from tests.ide import written as written_files
 from tests.ide.client import (
     Client,
@@ -259,6 +259,7 @@ GROUPS: List[Group] = [
     *crates.GROUPS,
     *faulty.GROUPS,
     *followed.GROUPS,
+    *grammar_texts.GROUPS,
     *looked_at.GROUPS,
     *sessions.GROUPS,
     *written_files.GROUPS,

@@ -1,5 +1,7 @@
-"""Chromium with the page of `lrls-playground`, as the tests drive it.
-Needs the Debian packages python3-aiohttp, libjs-codemirror, python3-selenium and chromium-driver.
+"""A browser with the page of `lrls-playground`, as the tests drive it: Chromium, in `chromium.py`,
+and Firefox, in `firefox.py`.
+Needs the Debian packages python3-aiohttp, libjs-codemirror, python3-selenium, and chromium-driver
+or firefox-esr: each browser that is there is tried.
 """
 
 import contextlib
@@ -19,64 +21,52 @@ pytest.importorskip("aiohttp", reason="lrls-playground needs python3-aiohttp")
 pytest.importorskip("selenium", reason="the page needs python3-selenium")
 if not os.path.isdir(CODEMIRROR):
     pytest.skip("lrls-playground needs libjs-codemirror", allow_module_level=True)
-if not shutil.which("chromedriver"):
-    pytest.skip("the page needs chromium-driver", allow_module_level=True)
 
 DOCS = os.path.join(TOP, "docs")
 # So long it is waited for what the page shows.
 SECONDS = PATIENCE
 # Shift, Control and Alt, which stay down while what follows is pressed, and what a line ends with.
 HELD, ENTER = "\ue008\ue009\ue00a", "\ue007"
+# What is seen of the page and may have a role.
+SEEN = """
+return [...document.querySelectorAll("button, select, textarea, input, section, [role]")].filter(
+  (it) => it.checkVisibility({ visibilityProperty: true }));
+"""
 
 
 class Browser:
-    """Chromium with the page, while the `with` block lasts."""
+    """A browser with the page, while the `with` block lasts."""
 
-    def __init__(self, address: str, width: int = 1400, height: int = 860) -> None:
-        from selenium import webdriver
-        from selenium.webdriver.chrome.service import Service
-
-        options = webdriver.ChromeOptions()
-        for word in (
-            "--headless=new",
-            "--no-sandbox",
-            "--disable-gpu",
-            "--disable-dev-shm-usage",
-            f"--window-size={width},{height}",
-        ):
-            options.add_argument(word)
-        options.set_capability("goog:loggingPrefs", {"browser": "ALL"})
-        self.driver = webdriver.Chrome(
-            service=Service(shutil.which("chromedriver")), options=options
-        )
+    def __init__(self, driver: Any, address: str) -> None:
+        self.driver = driver
         self.address = address
         self.driver.get(address)
+
+    def is_wide(self, width: int, height: int) -> None:
+        """The page has this size from now on."""
+        raise NotImplementedError
+
+    def is_dark(self, is_dark: bool) -> None:
+        """Who looks at the page prefers dark colours, or light ones."""
+        raise NotImplementedError
+
+    def lets_copy(self) -> None:
+        """The page may read and write what is copied."""
+        raise NotImplementedError
+
+    def logged(self) -> List[str]:
+        """What the browser has logged of the page."""
+        raise NotImplementedError
+
+    def roles(self) -> List[Tuple[str, str]]:
+        """The role and the name of each part of the page, to those who don't see it."""
+        return [(part.aria_role, part.accessible_name) for part in self.run(SEEN)]
 
     def __enter__(self) -> "Browser":
         return self
 
     def __exit__(self, *_: object) -> None:
         self.driver.quit()
-
-    def does(self, command: str, **params: object) -> Any:
-        """Gives the browser a command of its protocol."""
-        return self.driver.execute_cdp_cmd(command, params)
-
-    def is_wide(self, width: int, height: int) -> None:
-        """The page has this size from now on."""
-        self.does(
-            "Emulation.setDeviceMetricsOverride",
-            width=width,
-            height=height,
-            deviceScaleFactor=1,
-            mobile=False,
-        )
-
-    def is_dark(self, is_dark: bool) -> None:
-        """Who looks at the page prefers dark colours, or light ones."""
-        scheme = "dark" if is_dark else "light"
-        features = [{"name": "prefers-color-scheme", "value": scheme}]
-        self.does("Emulation.setEmulatedMedia", features=features)
 
     def run(self, script: str, *given: Any) -> Any:
         return self.driver.execute_script(script, *given)
@@ -159,10 +149,6 @@ class Browser:
         script = "return [...document.querySelectorAll(arguments[0])].map((it) => it.textContent)"
         return self.run(script, selector)
 
-    def logged(self) -> List[str]:
-        """What the browser has logged of the page."""
-        return [row["message"] for row in self.driver.get_log("browser")]
-
     def type(self, name: str, keys: str) -> None:
         """Types keys into an editor, where its cursor is. It is never drawn anew, so its field may
         be held, which takes a tenth of the time that `press` does."""
@@ -195,3 +181,7 @@ class Browser:
                 ],
                 check=True,
             )
+
+
+# What begins a browser at an address.
+Begins = Callable[[str], Browser]

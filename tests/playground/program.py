@@ -25,8 +25,7 @@ class Playground:
         environment = {**os.environ, "TMPDIR": self.folder, **variables}
         # What it says on standard error, which has to be nothing.
         self.said = tempfile.TemporaryFile("w+")
-        programs = ["--core", serving.PROGRAM, "--server", serving.made("lrls-ide")]
-        named = programs if serving.IS_QUICK else []
+        named = ["--server", serving.made("lrls-ide")] if serving.IS_QUICK else []
         self.process = subprocess.Popen(
             [PROGRAM, *named, *words],
             stdout=subprocess.PIPE,

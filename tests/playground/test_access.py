@@ -1,4 +1,4 @@
-"""Tries in headless Chromium who can use the page of `ide/lrls-playground`: with the keyboard
+"""Tries in headless browsers who can use the page of `ide/lrls-playground`: with the keyboard
 alone, on narrow and wide screens, in light and dark, and by what it says of its parts.
 Needs Python 3.11 and the Debian packages that tests/playground/browser.py names.
 One of them: pytest tests/playground/test_access.py -k keyboard
@@ -9,7 +9,7 @@ from typing import Any, Iterator, List, Tuple
 import pytest
 
 from tests.common.cases import Cases
-from tests.playground.browser import Browser
+from tests.playground.browser import Begins, Browser
 from tests.playground.program import Playground
 
 TAB, ESCAPE, SHIFT, RIGHT = "\ue004", "\ue00c", "\ue008", "\ue014"
@@ -77,8 +77,8 @@ return shown.filter((it) => contrast(it) < arguments[0]).map((it) => `${told(it)
 
 
 @pytest.fixture(scope="module")
-def page(programs: None) -> Iterator[Browser]:
-    with Playground() as playground, Browser(playground.address) as found:
+def page(programs: None, browser: Begins) -> Iterator[Browser]:
+    with Playground() as playground, browser(playground.address) as found:
         found.waits(lambda: ("while", "t-keyword") in found.colours("text"))
         found.shows("tree", "Program")
         yield found
@@ -159,7 +159,7 @@ def test_focus_of_conflict(cases: Cases, page: Browser) -> None:
     last = "const it = [...document.querySelectorAll('#conflict .item')].at(-1);"
     awaited = page.run(f"{last} it.focus(); it.dataset.old = true; return it.textContent")
     page.put("grammar", page.value("grammar") + "\n")
-    page.waits(lambda: not page.run("return document.querySelector('#conflict [data-old]')"))
+    page.waits(lambda: page.run("return !document.querySelector('#conflict [data-old]')"))
     cases.check("in a conflict", awaited, page.comes(awaited, focused))
     page.put("grammar", sound)
     page.waits(lambda: not page.all_of("#conflict *"))
@@ -288,11 +288,7 @@ def test_contrast(cases: Cases, page: Browser) -> None:
 def named(page: Browser) -> List[Tuple[str, str]]:
     """The kind and the name of each control."""
     kinds = ("button", "combobox", "textbox", "tree", "tab", "region")
-    return [
-        (node["role"]["value"], node.get("name", {}).get("value", ""))
-        for node in page.does("Accessibility.getFullAXTree")["nodes"]
-        if not node["ignored"] and node["role"]["value"] in kinds
-    ]
+    return [(kind, name) for kind, name in page.roles() if kind in kinds]
 
 
 def test_labels(cases: Cases, page: Browser) -> None:

@@ -1,4 +1,4 @@
-"""Tries in headless Chromium that the page of `ide/lrls-playground` loses nothing: what is typed,
+"""Tries in headless browsers that the page of `ide/lrls-playground` loses nothing: what is typed,
 what the menu replaces, and the form of files.
 Needs Python 3.11 and the Debian packages that tests/playground/browser.py names.
 One of them: pytest tests/playground/test_kept.py -k reload
@@ -10,7 +10,7 @@ from typing import Iterator, Tuple
 import pytest
 
 from tests.common.cases import Cases
-from tests.playground.browser import Browser
+from tests.playground.browser import Begins, Browser
 from tests.playground.program import Playground
 
 OWN = """lrgrammar 2
@@ -32,8 +32,8 @@ HTMLAnchorElement.prototype.click = () => {};
 
 
 @pytest.fixture(scope="module")
-def opened(programs: None) -> Iterator[Tuple[Playground, Browser]]:
-    with Playground() as playground, Browser(playground.address) as page:
+def opened(programs: None, browser: Begins) -> Iterator[Tuple[Playground, Browser]]:
+    with Playground() as playground, browser(playground.address) as page:
         yield playground, page
 
 
@@ -166,10 +166,7 @@ def visibility(page: Browser, selector: str) -> object:
 
 
 def test_link(cases: Cases, page: Browser) -> None:
-    page.does("Emulation.setFocusEmulationEnabled", enabled=True)
-    page.does(
-        "Browser.grantPermissions", permissions=["clipboardReadWrite", "clipboardSanitizedWrite"]
-    )
+    page.lets_copy()
     page.click("copy")
     cases.check("it is told", True, page.shows("shown", "The link is copied"))
     link = page.run("return navigator.clipboard.readText()")

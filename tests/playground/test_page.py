@@ -1,6 +1,5 @@
-"""Tries the page of `ide/lrls-playground` in headless Chromium.
-Needs Python 3.11 and the Debian packages python3-aiohttp, libjs-codemirror, python3-selenium and
-chromium-driver.
+"""Tries the page of `ide/lrls-playground` in headless browsers.
+Needs Python 3.11 and the Debian packages that tests/playground/browser.py names.
 All of it: pytest tests/playground/test_page.py
 
 A grammar is typed in, a conflict met and mended, a text of 100 KB typed into, and the tree clicked;
@@ -13,7 +12,7 @@ import pytest
 
 from tests.common import processes
 from tests.common.cases import Cases
-from tests.playground.browser import SECONDS, Browser
+from tests.playground.browser import SECONDS, Begins, Browser
 from tests.playground.program import Playground
 
 PAGES = 50
@@ -218,8 +217,8 @@ def loses(cases: Cases, page: Browser, playground: Playground) -> None:
 
 
 @pytest.mark.usefixtures("programs")
-def test_page(cases: Cases) -> None:
-    with Playground() as playground, Browser(playground.address) as page:
+def test_page(cases: Cases, browser: Begins) -> None:
+    with Playground() as playground, browser(playground.address) as page:
         starts(cases, page)
         follows(cases, page)
         faulty(cases, page)

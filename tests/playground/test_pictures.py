@@ -10,6 +10,7 @@ import pytest
 
 from tests.common.cases import Cases
 from tests.playground.browser import Browser
+from tests.playground.chromium import Chromium
 from tests.playground.program import Playground
 
 SONGS = """lrgrammar 2
@@ -54,11 +55,17 @@ Open = IF NAME Closed ELSE Open
 Closed = IF NAME Closed ELSE Closed
 Closed = NAME
 """
+# Pictures of the page of a width and a height, light or dark; a narrower page has tabs.
+SIZES = [
+    ("playground-wide.png", 1920, 1080, True),
+    ("playground-narrow.png", 390, 844, False),
+]
+NARROW = 800
 
 
 @pytest.fixture(scope="module")
 def page(programs: None) -> Iterator[Browser]:
-    with Playground() as playground, Browser(playground.address) as found:
+    with Playground() as playground, Chromium(playground.address) as found:
         found.is_wide(1280, 800)
         found.waits(lambda: ("while", "t-keyword") in found.colours("text"))
         yield found
@@ -102,4 +109,25 @@ def test_conflict(cases: Cases, page: Browser, draws: bool) -> None:
     cases.check("a conflict", True, page.shows("grammar-fault", "conflict on ELSE"))
     page.waits(lambda: page.all_of("#conflict .box"))
     drawn(page, "playground-conflict.png", draws)
+    cases.end(3)
+
+
+@pytest.mark.parametrize("name, width, height, is_dark", SIZES)
+def test_sizes(
+    cases: Cases, page: Browser, draws: bool, name: str, width: int, height: int, is_dark: bool
+) -> None:
+    """The page in other sizes, and in dark colours."""
+    page.is_wide(width, height)
+    page.is_dark(is_dark)
+    page.choose("script")
+    cases.check("the language", True, page.shows("shown", "script is in place"))
+    if width <= NARROW:
+        page.click("tab-tree")
+    else:
+        page.waits(lambda: ("while", "t-keyword") in page.colours("text"))
+    page.editor("text", "code.setCursor({ line: 7, ch: 18 })")
+    cases.check("the tree at the cursor", True, page.shows("tree", "NAME words"))
+    wide = lambda: page.run("return document.documentElement.scrollWidth")
+    cases.check("the width", width, page.comes(width, wide))
+    drawn(page, name, draws)
     cases.end(3)

@@ -54,7 +54,7 @@ def request_of(**more: object) -> str:
             "message": {
                 "jsonrpc": "2.0",
                 "id": 1,
-                "method": "lrls/edit",
+                "method": "lr/stats",
                 "params": params,
                 **more,
             },
@@ -71,6 +71,15 @@ BAD_MESSAGES = [
     json.dumps({"to": "page", "do": "exit"}),
     json.dumps({"to": "page", "do": "load", "name": "../../etc/passwd"}),
     json.dumps({"to": "page", "do": "grammar", "text": 5}),
+    json.dumps({"to": "page", "message": 5}),
+    json.dumps({"to": "page", "message": {"id": 1, "method": "page/none"}}),
+    json.dumps({"to": "page", "message": {"method": "page/place", "params": {"text": ""}}}),
+    json.dumps({"to": "page", "message": {"id": 1, "method": "page/place", "params": {}}}),
+    json.dumps(
+        {"to": "page", "message": {"id": 1, "method": "page/place", "params": {"text": "\ud800"}}}
+    ),
+    request_of(method="lrls/grammar", id=None),
+    request_of(method="lrls/grammar", params={"text": "\ud800"}),
     json.dumps({"to": "text", "message": 5}),
     json.dumps({"to": "text", "message": {"jsonrpc": "2.0", "method": "exit"}}),
     json.dumps({"to": "text", "message": {"jsonrpc": "2.0", "id": 1, "method": "shutdown"}}),
@@ -83,8 +92,8 @@ BAD_MESSAGES = [
     json.dumps({"to": {"a": 1}}),
     json.dumps({"to": "page", "do": ["load"], "name": "script"}),
     json.dumps({"to": "page", "do": "load", "name": {"a": 1}}),
-    request_of(method=["lrls/edit"]),
-    request_of(method={"lrls/edit": 1}),
+    request_of(method=["lr/stats"]),
+    request_of(method={"lr/stats": 1}),
     request_of(params={"textDocument": {"uri": ["page:text"]}}),
     request_of(params={"textDocument": {"uri": "page:text", "half": "\ud800"}}),
     b"bytes",
@@ -187,11 +196,11 @@ def sent_to(server: str, method: str, **more: object) -> str:
     )
 
 
-async def answer_to(socket: Any, number: int) -> Any:
-    """The answer to the request of this number."""
+async def answer_to(socket: Any, number: int, server: str = "text") -> Any:
+    """The answer of a server to the request of this number."""
     while True:
         envelope = json.loads((await socket.receive(timeout=5 * PATIENCE)).data)
-        if envelope.get("message", {}).get("id") == number and envelope["from"] == "text":
+        if envelope.get("message", {}).get("id") == number and envelope["from"] == server:
             return envelope["message"].get("result")
 
 
@@ -199,8 +208,8 @@ async def with_script(socket: Any, text: str) -> None:
     """A page has this text, in the language of the menu that is named script."""
     with open(os.path.join(TOP, "grammars", "script.lr"), encoding="utf-8") as file:
         params: Dict[str, object] = {"text": file.read(), "language": "script"}
-    await socket.send_str(sent_to("text", "lrls/grammar", id=1, params=params))
-    assert await answer_to(socket, 1) == {"fault": None, "language": "script"}
+    await socket.send_str(sent_to("page", "page/place", id=1, params=params))
+    assert await answer_to(socket, 1, "page") == {"language": "script"}
     document = {"uri": "page:text", "languageId": "text", "version": 1, "text": text}
     params = {"textDocument": document}
     await socket.send_str(sent_to("text", "textDocument/didOpen", params=params))
@@ -212,7 +221,7 @@ async def longest_wait(socket: Any, is_done: "asyncio.Future[Any]") -> float:
     while not is_done.done():
         begun, number = time.monotonic(), number + 1
         params = {"textDocument": {"uri": "page:text"}}
-        await socket.send_str(sent_to("text", "lrls/edit", id=number, params=params))
+        await socket.send_str(sent_to("text", "lr/stats", id=number, params=params))
         await answer_to(socket, number)
         longest = max(longest, time.monotonic() - begun)
         await asyncio.sleep(0.02)

@@ -1,4 +1,4 @@
-"""Tries in headless Chromium what the page of `ide/lrls-playground` tells: by which grammar a text
+"""Tries in headless browsers what the page of `ide/lrls-playground` tells: by which grammar a text
 is looked at, conflicts, first mistakes, and messages that go when their cause does.
 Needs Python 3.11 and the Debian packages that tests/playground/browser.py names.
 One of them: pytest tests/playground/test_told.py -k mistakes
@@ -9,7 +9,7 @@ from typing import Any, Iterator
 import pytest
 
 from tests.common.cases import Cases
-from tests.playground.browser import Browser
+from tests.playground.browser import Begins, Browser
 from tests.playground.program import Playground
 
 LISTS = """lrgrammar 2
@@ -58,8 +58,8 @@ MISTAKES = [
 
 
 @pytest.fixture(scope="module")
-def page(programs: None) -> Iterator[Browser]:
-    with Playground() as playground, Browser(playground.address) as found:
+def page(programs: None, browser: Begins) -> Iterator[Browser]:
+    with Playground() as playground, browser(playground.address) as found:
         found.is_wide(1280, 800)
         found.waits(lambda: ("while", "t-keyword") in found.colours("text"))
         yield found

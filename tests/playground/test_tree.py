@@ -1,4 +1,4 @@
-"""Tries in headless Chromium the tree of the page of `ide/lrls-playground`: flat lists, pages of
+"""Tries in headless browsers the tree of the page of `ide/lrls-playground`: flat lists, pages of
 parts, the way to the cursor, keys and roles.
 Needs Python 3.11 and the Debian packages that tests/playground/browser.py names.
 One of them: pytest tests/playground/test_tree.py -k keys
@@ -15,7 +15,7 @@ import pytest
 
 from tests import TOP
 from tests.common.cases import Cases
-from tests.playground.browser import Browser
+from tests.playground.browser import Begins, Browser
 from tests.playground.program import Playground
 
 G0 = os.path.join(TOP, "grammars", "g0.lr")
@@ -50,8 +50,8 @@ WebSocket.prototype.send = function (data) {
 
 
 @pytest.fixture(scope="module")
-def page(programs: None) -> Iterator[Browser]:
-    with Playground() as playground, Browser(playground.address) as found:
+def page(programs: None, browser: Begins) -> Iterator[Browser]:
+    with Playground() as playground, browser(playground.address) as found:
         found.waits(lambda: ("while", "t-keyword") in found.colours("text"))
         yield found
 
@@ -81,7 +81,7 @@ def with_sums(page: Browser, text: str) -> None:
     page.shows("grammar-fault", "no fault")
     page.run("for (const it of document.querySelectorAll('#tree > *')) it.dataset.old = true")
     page.put("text", text)
-    page.waits(lambda: not page.run("return document.querySelector('#tree [data-old]')"))
+    page.waits(lambda: page.run("return !document.querySelector('#tree [data-old]')"))
     page.shows("text-fault", "no fault")
     page.waits(lambda: shown(page)[0].startswith("Sum") if shown(page) else False)
 
@@ -284,8 +284,7 @@ def test_roles(cases: Cases, page: Browser) -> None:
     page.shows("tree", "NUM 1")
 
     def count(role: str) -> int:
-        nodes = page.does("Accessibility.getFullAXTree")["nodes"]
-        return [node["role"]["value"] for node in nodes if not node["ignored"]].count(role)
+        return [kind for kind, _ in page.roles()].count(role)
 
     cases.check("a tree", 1, page.comes(1, lambda: count("tree")))
     cases.check("its lines", 4, page.comes(4, lambda: count("treeitem")))

@@ -39,8 +39,8 @@ WRONG = [
     (
         "texts aren't opened again",
         "playground/page.js",
-        "  editor.open(link);\n  tell(told);",
-        "  tell(told);",
+        "  editor.open(link);\n  if (editor === grammar)",
+        "  if (editor === grammar)",
         "playground page",
     ),
     (
@@ -151,8 +151,8 @@ WRONG = [
     (
         "any method",
         "lrls_ide/page.py",
-        "if not (is_note or is_asked) or member(",
-        "if method is None and member(",
+        "if not is_about_it and (method not in ABOUT_NONE or number is None):",
+        "if method is None:",
         "playground sockets",
     ),
     (
@@ -331,10 +331,17 @@ WRONG = [
         "playground told",
     ),
     (
-        "no words for marks",
-        "lrls_ide/faults.py",
-        "return OF_VERSION_1_HINT",
-        "return None",
+        "no words for what is known",
+        "playground/grammar.js",
+        "? fault.hint : null;",
+        "? null : null;",
+        "playground told",
+    ),
+    (
+        "a faulty grammar is put in place",
+        "playground/grammar.js",
+        "if (!fault) await this.place(text);",
+        "await this.place(text);",
         "playground told",
     ),
     (

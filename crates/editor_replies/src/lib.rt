@@ -4,9 +4,10 @@
 //! `to_bytes` writes a `Sent` as compact JSON, with the keys of each object in byte order. Its one
 //! error is that memory ran out. It writes part by part: nothing is copied before, and no JSON
 //! value is built but for `outline_value`, `hover_value`, `brackets_value`, `fixes_value`,
-//! `rows_value` and `nodes_value`, which are the results of their requests, for the diagnostics
-//! behind the first (`behind_value`), and for the parameters of what is said of the server's own
-//! accord (`told_value`, `watching_value`, `grammar_diagnostics_value`).
+//! `rows_value`, `nodes_value`, `sound_grammar_value` and `faulty_grammar_value`, which are the
+//! results of their requests, for the diagnostics behind the first (`behind_value`), and for the
+//! parameters of what is said of the server's own accord (`told_value`, `watching_value`,
+//! `grammar_diagnostics_value`).
 //!
 //! Words: what the *core* sends is a `Reply`; a *fault* is shown in the words of a language, with
 //! the text that the core has for it kept beside. The *legend* of colours has the types of tokens
@@ -28,6 +29,7 @@
 #![tactic(auto)]
 
 mod diagnostics;
+mod grammars;
 mod numbers;
 mod offers;
 mod pages;
@@ -38,11 +40,12 @@ mod sent;
 mod values;
 
 pub use definitions::{Range, Unit};
+pub use grammars::{faulty_grammar_value, grammar_diagnostics_value, sound_grammar_value};
 pub use pages::{nodes_value, rows_value};
 pub use replies::{Id, Reply};
 pub use results::{
-    behind_value, brackets_value, fixes_value, grammar_diagnostics_value, hover_value,
-    outline_value, told_value, watching_value,
+    behind_value, brackets_value, fixes_value, hover_value, outline_value, told_value,
+    watching_value,
 };
 pub use sending::to_bytes;
 pub use sent::{Change, Fault, Offered, Sent};

@@ -31,7 +31,7 @@ pub fn rows_value(alloc: Global, version: i32, rows: &[TokenRow]) -> Result<Valu
 }
 
 /// Texts, in order.
-fn text_values(alloc: Global, texts: &[String]) -> Result<Vec<Value>, AllocError> {
+pub(crate) fn text_values(alloc: Global, texts: &[String]) -> Result<Vec<Value>, AllocError> {
     let mut values = Vec::with_capacity(alloc, texts.len())?;
     for text in texts {
         values.push(Value::String(String::from_str(alloc, text.as_str())?))?;

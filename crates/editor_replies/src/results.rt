@@ -2,7 +2,6 @@
 
 use definitions::{Position, Range};
 use faults::{FaultBehind, Fix};
-use grammar_reports::{GrammarReport, LinePart, ReportedItem};
 use hover::{BracketPair, HoverText, Markup};
 use outline::OutlineSymbol;
 use serde_json::{Map, Value, json};
@@ -252,49 +251,4 @@ pub fn watching_value(alloc: Global, paths: &[String]) -> Result<Value, AllocErr
         "registerOptions": options
     })?;
     json!(in alloc; {"registrations": [registration]})
-}
-
-/// The range of a part of a line (LSP 3.17, "Range").
-fn part_value(alloc: Global, part: LinePart) -> Result<Value, AllocError> {
-    let (line, first, last) = (part.line, part.start, part.end);
-    let start = json!(in alloc; {"character": first, "line": line})?;
-    let end = json!(in alloc; {"character": last, "line": line})?;
-    json!(in alloc; {"end": end, "start": start})
-}
-
-/// An item of a conflict, beside the diagnostic (LSP 3.17, "DiagnosticRelatedInformation").
-fn item_value(alloc: Global, uri: &str, item: &ReportedItem) -> Result<Value, AllocError> {
-    let (range, message) = (part_value(alloc, item.at)?, item.message.as_str());
-    let location = json!(in alloc; {"range": range, "uri": uri})?;
-    json!(in alloc; {"location": location, "message": message})
-}
-
-/// The fault of a grammar file as a diagnostic of it (LSP 3.17, "Diagnostic").
-fn report_value(alloc: Global, uri: &str, report: &GrammarReport) -> Result<Value, AllocError> {
-    let mut items = Vec::new(alloc);
-    for item in &report.items {
-        items.push(item_value(alloc, uri, item)?)?;
-    }
-    let (range, message) = (part_value(alloc, report.at)?, report.message.as_str());
-    json!(in alloc; {
-        "message": message,
-        "range": range,
-        "relatedInformation": items,
-        "severity": 1,
-        "source": "lrls"
-    })
-}
-
-/// What is published of a grammar file: its fault, or that it has none
-/// (LSP 3.17, "PublishDiagnosticsParams"). Refuses for memory alone.
-pub fn grammar_diagnostics_value(
-    alloc: Global,
-    uri: &str,
-    report: Option<&GrammarReport>,
-) -> Result<Value, AllocError> {
-    let mut diagnostics = Vec::new(alloc);
-    if let Some(report) = report {
-        diagnostics.push(report_value(alloc, uri, report)?)?;
-    }
-    json!(in alloc; {"diagnostics": diagnostics, "uri": uri})
 }

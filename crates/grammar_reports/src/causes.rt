@@ -4,7 +4,7 @@ use grammar::GrammarCause;
 use patterns::PatternCause;
 
 /// Why a pattern is none.
-fn pattern_words(cause: &PatternCause) -> &'static str {
+pub fn pattern_words(cause: &PatternCause) -> &'static str {
     match cause {
         PatternCause::Syntax => {
             "the pattern can't go on like this: it has literals \"if\", classes [a-z], groups (..), and |, *, + and ?"

@@ -21,8 +21,21 @@ pub fn look_name(grammar: &Grammar, look: Option<usize>) -> &str {
     }
 }
 
+/// The names of symbols, in order.
+pub fn name_list(
+    alloc: Global,
+    grammar: &Grammar,
+    symbols: &[Symbol],
+) -> Result<Vec<String>, AllocError> {
+    let mut list = Vec::with_capacity(alloc, symbols.len())?;
+    for symbol in symbols {
+        list.push(String::from_str(alloc, name_of(grammar, *symbol))?)?;
+    }
+    Ok(list)
+}
+
 /// The names of symbols, a blank before each.
-pub fn names(alloc: Global, grammar: &Grammar, symbols: &[Symbol]) -> Result<String, AllocError> {
+fn names(alloc: Global, grammar: &Grammar, symbols: &[Symbol]) -> Result<String, AllocError> {
     let mut text = String::new(alloc);
     for symbol in symbols {
         text.push_str(" ")?;
@@ -68,13 +81,31 @@ pub fn dotted(
     format!(in alloc; "{left} ={before} .{after}")
 }
 
-/// What an item calls for: where its dot is at the end the production is reduced, else what stands
-/// after the dot is shifted.
-pub fn move_of(sides: &Sides<'_>, at: usize) -> &'static str {
+/// What an item calls for.
+#[derive(Clone, Copy, Debug, PartialEq, Eq)]
+pub enum Move {
+    /// The token after its dot is shifted.
+    Shift,
+    /// Its dot is at the end, and its production is reduced.
+    Reduce,
+}
+
+impl Move {
+    /// Its word.
+    pub fn word(self) -> &'static str {
+        match self {
+            Move::Shift => "shift",
+            Move::Reduce => "reduce",
+        }
+    }
+}
+
+/// What an item of this production calls for, with its dot here.
+pub fn move_of(sides: &Sides<'_>, at: usize) -> Move {
     if at >= sides.right.len() {
-        "reduce"
+        Move::Reduce
     } else {
-        "shift"
+        Move::Shift
     }
 }
 

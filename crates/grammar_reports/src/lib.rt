@@ -2,8 +2,9 @@
 //! in an editor.
 //!
 //! `report` says what is wrong, why, and where in the file's text: the line at fault, and of a
-//! pattern from the character on where its fault is; of a conflict the productions of both items.
-//! Of a line that is written as in another form of grammars it says what to write in its place.
+//! pattern from the character on where its fault is; of a conflict the productions of both items,
+//! and what they call for. Of a line that is written as in another form of grammars it says what
+//! to write in its place, and of a pattern what is wrong with it: the *hint*.
 //!
 //! Words: a *report* has a message and its place; the *items* of a conflict are those of
 //! `tables::Conflict`, each with the line of its production.
@@ -26,5 +27,6 @@ mod lines;
 mod mistakes;
 mod reports;
 
+pub use conflicts::Move;
 pub use lines::LinePart;
-pub use reports::{GrammarReport, ReportedItem, report};
+pub use reports::{GrammarReport, ReportedConflict, ReportedItem, report};

@@ -1,7 +1,9 @@
 //! What is wrong with a grammar file, and where.
 
-use crate::causes::cause_words;
-use crate::conflicts::{dotted, line_of_production, look_name, move_of, sides_of, where_met};
+use crate::causes::{cause_words, pattern_words};
+use crate::conflicts::{
+    Move, dotted, line_of_production, look_name, move_of, name_list, sides_of, where_met,
+};
 use crate::lines::{LinePart, line_of, part_from, pattern_start};
 use crate::mistakes::mistake;
 use docs::LoadFault;
@@ -9,12 +11,31 @@ use grammar::{Grammar, GrammarCause, GrammarFault, Symbol};
 use std::alloc::{AllocError, Global};
 use tables::{Conflict, Item};
 
-/// One of the two items of a conflict.
+/// One of the two items of a conflict: its production with a dot, and the lookahead.
 #[derive(Debug, Drop)]
 pub struct ReportedItem {
+    /// The item as it is written.
     pub message: String,
     /// The line of its production.
     pub at: LinePart,
+    pub calls_for: Move,
+    /// The left side of its production.
+    pub left: String,
+    /// The right side.
+    pub right: Vec<String>,
+    /// How many symbols of the right side stand before the dot.
+    pub dot: usize,
+    pub look: String,
+}
+
+/// A conflict: two items that call for different moves on one lookahead.
+#[derive(Debug, Drop)]
+pub struct ReportedConflict {
+    pub look: String,
+    /// A viable prefix after which the lookahead comes.
+    pub prefix: Vec<String>,
+    pub first: ReportedItem,
+    pub second: ReportedItem,
 }
 
 /// What is wrong with a grammar file.
@@ -22,8 +43,9 @@ pub struct ReportedItem {
 pub struct GrammarReport {
     pub message: String,
     pub at: LinePart,
-    /// The items of a conflict; none of another fault.
-    pub items: Vec<ReportedItem>,
+    /// What to write instead, where the mistake is one that is known.
+    pub hint: Option<&'static str>,
+    pub conflict: Option<ReportedConflict>,
 }
 
 /// A report about the first line, for faults that no line shows.
@@ -31,13 +53,16 @@ fn whole(alloc: Global, message: &str, text: &str) -> Result<GrammarReport, Allo
     Ok(GrammarReport {
         message: String::from_str(alloc, message)?,
         at: part_from(text, 0, 0),
-        items: Vec::new(alloc),
+        hint: None,
+        conflict: None,
     })
 }
 
-/// What to write in the place of a line that is none, where it is a mistake that is known.
-fn mistake_at(cause: &GrammarCause, text: &str, line: usize) -> Option<&'static str> {
+/// What to write in the place of a pattern at fault, or of a line that is none, where it is a
+/// mistake that is known.
+fn hint_at(cause: &GrammarCause, text: &str, line: usize) -> Option<&'static str> {
     match cause {
+        GrammarCause::BadPattern(fault) => Some(pattern_words(&fault.cause)),
         GrammarCause::BadLine => mistake(line_of(text, 0), line_of(text, line)),
         _ => None,
     }
@@ -53,11 +78,13 @@ fn of_line(alloc: Global, fault: &GrammarFault, text: &str) -> Result<GrammarRep
         _ => 0,
     };
     let cause = &fault.cause;
-    let words = mistake_at(cause, text, line).unwrap_or(cause_words(cause));
+    let hint = hint_at(cause, text, line);
+    let words = hint.unwrap_or(cause_words(cause));
     Ok(GrammarReport {
         message: format!(in alloc; "{cause}: {words}")?,
         at: part_from(text, line, character),
-        items: Vec::new(alloc),
+        hint,
+        conflict: None,
     })
 }
 
@@ -75,6 +102,11 @@ fn of_item(
     Ok(ReportedItem {
         message: format!(in alloc; "item: {written}, {look}")?,
         at: part_from(text, line_of_production(text, grammar, &sides), 0),
+        calls_for: move_of(&sides, item.at),
+        left: String::from_str(alloc, sides.left)?,
+        right: name_list(alloc, grammar, sides.right)?,
+        dot: item.at,
+        look: String::from_str(alloc, look)?,
     })
 }
 
@@ -83,7 +115,7 @@ fn move_words(alloc: Global, grammar: &Grammar, item: Item) -> Result<String, Al
     let start = [Symbol::Nonterminal(grammar.start())];
     let sides = sides_of(grammar, item, &start);
     let written = dotted(alloc, grammar, &sides, item.at)?;
-    let called = move_of(&sides, item.at);
+    let called = move_of(&sides, item.at).word();
     format!(in alloc; "{called} in {written}")
 }
 
@@ -103,11 +135,17 @@ fn of_conflict(
     let message = format!(in alloc;
         "conflict on {look} {place}: {one} or {other}; docs/GRAMMARS.md says how to mend it"
     )?;
-    let at = first.at;
-    let mut items = Vec::with_capacity(alloc, 2)?;
-    items.push(first)?;
-    items.push(second)?;
-    Ok(GrammarReport { message, at, items })
+    Ok(GrammarReport {
+        message,
+        at: first.at,
+        hint: None,
+        conflict: Some(ReportedConflict {
+            look: String::from_str(alloc, look)?,
+            prefix: name_list(alloc, grammar, &conflict.prefix)?,
+            first,
+            second,
+        }),
+    })
 }
 
 /// What is wrong with the grammar file of this text, and where, by the fault that

@@ -73,7 +73,7 @@ kind = "File"
 /// The settings of a file are written as the same file.
 fn check_written(rt: &impl Abort, alloc: Global, grammar: &Grammar, text: &str) {
     let settings = read(alloc, grammar, text).expect(rt, "settings");
-    let written = to_toml(alloc, grammar, &settings, "notes.lr").expect(rt, "memory");
+    let written = to_toml(alloc, grammar, &settings, Some("notes.lr")).expect(rt, "memory");
     assert!(rt; written.as_str() == text, "{written}");
 }
 
@@ -81,8 +81,13 @@ fn check_written(rt: &impl Abort, alloc: Global, grammar: &Grammar, text: &str) 
 fn settings_are_written_and_read(rt: HostRuntime) {
     let grammar = notes(&rt, rt.alloc());
     let settings = guess(rt.alloc(), &grammar).expect(&rt, "memory");
-    let written = to_toml(rt.alloc(), &grammar, &settings, "notes.lr").expect(&rt, "memory");
+    let written = to_toml(rt.alloc(), &grammar, &settings, Some("notes.lr")).expect(&rt, "memory");
     assert!(rt; written.as_str() == GUESSED, "{written}");
+    let nameless = to_toml(rt.alloc(), &grammar, &settings, None).expect(&rt, "memory");
+    let row = "grammar = \"notes.lr\"\n";
+    let (before, behind) = GUESSED.split_once(row).expect(&rt, "a row");
+    let awaited = format!(in rt.alloc(); "{before}{behind}").expect(&rt, "memory");
+    assert!(rt; nameless.as_str() == awaited.as_str(), "{nameless}");
     check_written(&rt, rt.alloc(), &grammar, GUESSED);
     check_written(&rt, rt.alloc(), &grammar, OTHERS);
 }
@@ -92,7 +97,7 @@ fn settings_are_written_and_read(rt: HostRuntime) {
 fn an_empty_file_says_nothing(rt: HostRuntime) {
     let grammar = notes(&rt, rt.alloc());
     let settings = read(rt.alloc(), &grammar, "").expect(&rt, "settings");
-    let written = to_toml(rt.alloc(), &grammar, &settings, "notes.lr").expect(&rt, "memory");
+    let written = to_toml(rt.alloc(), &grammar, &settings, Some("notes.lr")).expect(&rt, "memory");
     assert!(rt; written.as_str() == GUESSED, "{written}");
 }
 

@@ -62,7 +62,7 @@ fn print(rt: &HostRuntime, printed: &Printed) -> Result<u8, Fault> {
 fn write_guess(rt: &HostRuntime, language: &Language, path: &str) -> Result<u8, Fault> {
     let grammar = language.grammar();
     let settings = guess(rt.alloc(), grammar)?;
-    let text = to_toml(rt.alloc(), grammar, &settings, last(path))?;
+    let text = to_toml(rt.alloc(), grammar, &settings, Some(last(path)))?;
     match rt.stdout().write_all(text.as_bytes()) {
         Ok(()) => Ok(0),
         Err(_) => Err(Fault::Write),

@@ -141,7 +141,8 @@ fn without_line(alloc: Global, message: &str) -> Result<Found, AllocError> {
             start: 0,
             end: 0,
         },
-        items: Vec::new(alloc),
+        hint: None,
+        conflict: None,
     }))
 }
 

@@ -4,7 +4,7 @@ use Rattle.std.specs.FinMap.{get}
 use Rattle.readings.specs.Texts.{OpenDocument}
 use Rattle.replies.specs.Ids.{Ident}
 use Rattle.sessions.specs.Documents.{DocumentState, is_lost, is_open}
-use Rattle.questions.specs.Asked.{Asked, Question, about, misfit, its_brackets, its_changes, its_colours, its_fixes, its_hover, its_lines, its_nodes, its_offers, its_outline, its_rows}
+use Rattle.questions.specs.Asked.{Asked, Question, a_grammar, about, misfit, its_brackets, its_changes, its_colours, its_fixes, its_hover, its_lines, its_nodes, its_offers, its_outline, its_rows}
 use Rattle.editor_replies.specs.Sent.{Message, core_part}
 use Rattle.own_replies.specs.Replies.{AreChanges, IsReply, IsReplyAbout, IsReplyOf, IsSomeResultIfFit, since}
 use Rattle.own_replies.specs.States.{IdeState}
@@ -42,4 +42,5 @@ of_document old id uri (Some (is_open d)) question message new r = of_open old i
 
 pub is_own : (old : IdeState) (id : Ident) (asked : Asked) (message : Message) (new : IdeState) → IsReply old id asked message new → IsOwn old message new
 is_own old id misfit message new r = (ap core_part r.0, ap (λ (s : IdeState). s.core) r.1)
+is_own old id (a_grammar text) message new r = (ap core_part r.0.2, ap (λ (s : IdeState). s.core) r.1)
 is_own old id (about uri question) message new r = of_document old id uri (get old.core.documents uri) question message new r

@@ -1,8 +1,11 @@
--- Worked examples of changes of colours that were sent.
-use Rattle.std.proofs.Common.{◌≡◌, [], ◌∷◌, Option, Some, None, pos, refl}
+-- Worked examples of changes of colours that were sent, and of what is told of a grammar file.
+use Rattle.std.proofs.Common.{◌≡◌, ℕ, List, [], ◌∷◌, Option, Some, None, pos, refl}
+use Rattle.std.specs.Prelude.{codes}
+use Rattle.serde_json.specs.Data.{Data, array, boolean, member, no_members, null, number, object, string}
+use Rattle.serde_json.specs.Find.{get as member_of}
 use Rattle.replies.specs.Ids.{numbered}
 use Rattle.editor_replies.specs.Sent.{NumbersEdit, changes, colours}
-use Rattle.own_replies.specs.Replies.{AreChanges, edited, since}
+use Rattle.own_replies.specs.Replies.{AreChanges, TellsFault, TellsSettings, edited, since}
 use Rattle.own_replies.specs.States.{Told}
 
 -- the colours of `a` were sent last, as the result `7`
@@ -52,3 +55,47 @@ whole_again = refl
 
 nameless : AreChanges (numbered (pos 1)) (56 ∷ []) None (2 ∷ []) (colours (numbered (pos 1)) None (2 ∷ [])) → ⊥
 nameless e = cc
+
+-- ---- what is told of a grammar file
+
+-- a fault with the message `y`, and empty settings
+fault : Data
+fault = object (member (codes "message") (string (121 ∷ [])) no_members)
+
+faulty : Data
+faulty = object (member (codes "fault") fault (member (codes "settings") null no_members))
+
+sound : Data
+sound = object (member (codes "fault") null (member (codes "settings") (string []) no_members))
+
+a_fault : TellsFault faulty
+unfolding faulty fault
+a_fault = (fault, 121 ∷ [], refl, refl)
+
+settings : TellsSettings sound
+unfolding sound
+settings = ([], refl, refl)
+
+-- a value that lacks both tells neither
+neither_fault : TellsFault (object no_members) → ⊥
+neither_fault r = cc
+
+neither_settings : TellsSettings (object no_members) → ⊥
+neither_settings r = cc
+
+-- what tells one of them doesn't tell the other
+no_settings : TellsSettings faulty → ⊥
+unfolding faulty fault
+no_settings r = cc
+
+no_message : (d : Data) (message : List ℕ) → Some null ≡ Some d → member_of (codes "message") d ≡ Some (string message) → ⊥
+no_message null message e f = cc
+no_message (boolean b) message e f = cc
+no_message (number n) message e f = cc
+no_message (string s) message e f = cc
+no_message (array ds) message e f = cc
+no_message (object ms) message e f = cc
+
+no_fault : TellsFault sound → ⊥
+unfolding sound
+no_fault r = no_message r.0 r.1 r.2 r.3

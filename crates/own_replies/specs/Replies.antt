@@ -1,14 +1,18 @@
 -- What the editor's server replies to the requests that the core doesn't know.
 use Rattle.std.specs.Prelude.{◌≡◌, ◌⊎◌, ◌+◌, ◌&&◌, ℕ, List, ◌++◌, take, drop, map, decimal, if◌then◌else◌}
-use Rattle.std.specs.Prelude.{Option, Some, None}
+use Rattle.std.specs.Prelude.{Option, Some, None, Bool, true, false, codes}
 use Rattle.std.specs.FinMap.{get}
 use Rattle.std.specs.Str.{bytes_eq}
-use Rattle.serde_json.specs.Data.{Data}
+use Rattle.serde_json.specs.Data.{Data, null, string}
+use Rattle.serde_json.specs.Find.{get as member_of}
 use Rattle.definitions.specs.Text.{offset, position}
 use Rattle.definitions.specs.declared.Position.{Position}
 use Rattle.definitions.specs.declared.Range.{Range}
 use Rattle.definitions.specs.declared.Kind.{Kind}
 use Rattle.definitions.specs.Tokens.{kinds}
+use Rattle.docs.specs.Languages.{IsLanguageOf, IsLoadFault}
+use Rattle.docs.specs.declared.language.LoadFault.{LoadFault}
+use Rattle.docs.specs.declared.language.LoadFault.TheVariants.{Memory}
 use Rattle.grammar.specs.Grammars.{FileGrammar}
 use Rattle.completion.specs.Offers.{AreOffers}
 use Rattle.mending.specs.Mendings.{IsMended}
@@ -19,8 +23,8 @@ use Rattle.replies.specs.Ids.{Ident}
 use Rattle.replies.specs.Replies.{error_reply}
 use Rattle.replies.specs.declared.reply.Refusal.TheVariants.{DocumentLost, DocumentNotOpen, InvalidParams}
 use Rattle.sessions.specs.Documents.{DocumentState, is_lost, is_open}
-use Rattle.questions.specs.Asked.{Asked, Question, about, its_brackets, its_changes, its_colours, its_fixes, its_hover, its_lines}
-use Rattle.questions.specs.Asked.{its_nodes, its_offers, its_outline, its_rows, misfit}
+use Rattle.questions.specs.Asked.{Asked, Question, a_grammar, about, its_brackets, its_changes, its_colours, its_fixes, its_hover}
+use Rattle.questions.specs.Asked.{its_lines, its_nodes, its_offers, its_outline, its_rows, misfit}
 use Rattle.editor_replies.specs.Sent.{Message, NumbersEdit, OfferData, changes, colours, offers, own, some_result}
 use Rattle.own_replies.specs.States.{IdeState, Told, next}
 
@@ -122,7 +126,42 @@ IsReplyAbout old id uri (Some (is_lost loss)) question message new =
     (message ≡ own (error_reply (Some id) (DocumentLost loss))) × (new ≡ old)
 IsReplyAbout old id uri (Some (is_open d)) question message new = IsReplyOf old id uri d question message new
 
+-- a grammar file with this text defines a language
+abbrev pub HasLanguage : List ℕ → Type 0
+HasLanguage text = (file : FileGrammar) × IsLanguageOf text file
+
+-- whether what is wrong is that memory is wanting
+abbrev pub is_memory : LoadFault → Bool
+is_memory Memory = true
+is_memory _ = false
+
+-- a grammar file with this text has a fault: another one than that memory is wanting
+abbrev pub HasFault : List ℕ → Type 0
+HasFault text = (fault : LoadFault) × IsLoadFault text fault × (is_memory fault ≡ false)
+
+-- no fault is told, and settings are
+abbrev pub TellsSettings : Data → Type 0
+TellsSettings value =
+    (settings : List ℕ) × (member_of (codes "fault") value ≡ Some null)
+    × (member_of (codes "settings") value ≡ Some (string settings))
+
+-- a fault is told, with a message
+abbrev pub TellsFault : Data → Type 0
+TellsFault value =
+    (fault : Data) × (message : List ℕ) × (member_of (codes "fault") value ≡ Some fault)
+    × (member_of (codes "message") fault ≡ Some (string message))
+
+-- `TellsWhether text value`: what is told of a grammar file with this text: settings only where it defines a language, and a fault only
+-- where it has one
+abbrev pub TellsWhether : List ℕ → Data → Type 0
+TellsWhether text value = (TellsSettings value × HasLanguage text) ⊎ (TellsFault value × HasFault text)
+
+-- `IsTold id text message`: what is replied of a grammar file with this text
+abbrev pub IsTold : Ident → List ℕ → Message → Type 0
+IsTold id text message = (value : Data) × TellsWhether text value × (message ≡ some_result id value)
+
 -- `IsReply old id asked message new`: what is replied to a request of the editor's server
 abbrev pub IsReply : IdeState → Ident → Asked → Message → IdeState → Type 0
 IsReply old id misfit message new = (message ≡ own (error_reply (Some id) InvalidParams)) × (new ≡ old)
+IsReply old id (a_grammar text) message new = IsTold id text message × (new ≡ old)
 IsReply old id (about uri question) message new = IsReplyAbout old id uri (get old.core.documents uri) question message new

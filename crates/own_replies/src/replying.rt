@@ -11,6 +11,7 @@ ghost use Rattle.questions.specs.Asked.{asked_view, question_view};
 ghost use Rattle.own_replies.specs.Replies.{next_name, since, tells, AreChanges, AreOffersAt, AreRepairsOf, IsReply, IsReplyAbout, IsReplyOf, IsSomeResultIfFit};
 ghost use Rattle.own_replies.specs.Servers.{after, replying_state, state_with};
 
+use crate::grammars::grammar_reply;
 use crate::offered::all_offered;
 use crate::results::{Results, Told, change, since};
 use crate::ways::ways_in;
@@ -384,6 +385,10 @@ impl<'a> Replying<'a> {
     {
         match asked {
             Asked::About(uri, question) => self.reply_about(alloc, id, uri.as_str(), &question),
+            Asked::Grammar(text) => Ok(Replied {
+                message: grammar_reply(alloc, id, text.as_str())?,
+                told: None,
+            }),
             Asked::Misfit => Ok(Replied {
                 message: refused(id, Refusal::InvalidParams),
                 told: None,

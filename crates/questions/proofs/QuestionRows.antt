@@ -7,7 +7,7 @@ use Rattle.definitions.specs.declared.Unit.TheVariants.{Utf16}
 use Rattle.replies.specs.Ids.{numbered}
 use Rattle.rpc.specs.Messages.{accepted, ignored, refused, request, shutdown, stats, unknown}
 use Rattle.sessions.specs.declared.phase.Phase.TheVariants.{New, Ready, Down}
-use Rattle.questions.specs.Asked.{about, about_document, its_colours, lines_of, misfit}
+use Rattle.questions.specs.Asked.{a_grammar, about, about_document, grammar_asked, its_colours, lines_of, misfit}
 use Rattle.questions.specs.Cancels.{IsCancelled, cancelled_of, question_id}
 use Rattle.questions.specs.Own.{own_of}
 
@@ -42,6 +42,13 @@ no_document = refl
 
 of_document : about_document (Some (97 ∷ [])) (Some its_colours) ≡ about (97 ∷ []) its_colours
 of_document = refl
+
+-- a grammar file needs a text, which may be empty
+no_text : grammar_asked None ≡ misfit
+no_text = refl
+
+empty_text : grammar_asked (Some []) ≡ a_grammar []
+empty_text = refl
 
 -- ---- cancelled requests
 

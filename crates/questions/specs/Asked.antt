@@ -30,9 +30,11 @@ pub data Question : Type 0 where
   its_rows : ℕ → ℕ → Question
   its_nodes : Position → Data → Question
 
--- what a request asks: of the document of a URI this; or its parameters don't fit its method
+-- what a request asks: of the document of a URI this; of a grammar file of this text what is wrong with it, or what settings are guessed
+-- for it; or its parameters don't fit its method
 pub data Asked : Type 0 where
   about : List ℕ → Question → Asked
+  a_grammar : List ℕ → Asked
   misfit : Asked
 
 -- the lines that a range has a part of, its ends in either order: the first one, and the one after the last, at most the greatest number of
@@ -69,6 +71,11 @@ named_asked d = unwrap_or (get (codes "open") d) null
 abbrev pub nodes_asked : Data → Option Question
 nodes_asked d = option_map (λ place. its_nodes place (named_asked d)) (place_asked d)
 
+-- what `lrls/grammar` asks of the text that its parameters have
+abbrev pub grammar_asked : Option (List ℕ) → Asked
+grammar_asked (Some text) = a_grammar text
+grammar_asked None = misfit
+
 -- `asked_of method d`: what a request of this method with the parameters `d` asks; none where the method is not the editor's server's
 abbrev pub asked_of : List ℕ → Data → Option Asked
 asked_of method d =
@@ -87,8 +94,9 @@ asked_of method d =
     then Some (about_document (uri_at d) (option_map its_fixes (range_asked d))) else (
     if bytes_eq method (codes "lrls/tokens")
     then Some (about_document (uri_at d) (option_map (λ l. its_rows l.0 l.1) (lines_asked d))) else (
-    if bytes_eq method (codes "lrls/nodes") then Some (about_document (uri_at d) (nodes_asked d)) else
-    None)))))))))
+    if bytes_eq method (codes "lrls/nodes") then Some (about_document (uri_at d) (nodes_asked d)) else (
+    if bytes_eq method (codes "lrls/grammar") then Some (grammar_asked (text_at (codes "text") d)) else
+    None))))))))))
 
 -- what a JSON value asks, by its method and parameters
 abbrev pub asked_by : Data → Option Asked
@@ -114,4 +122,5 @@ question_view (wish.Nodes position named) = its_nodes position (view named)
 -- what a request of the code asks, as `Asked`
 abbrev pub asked_view : Put → Asked
 asked_view (put.About uri question) = about (string_bytes uri) (question_view question)
+asked_view (put.Grammar text) = a_grammar (string_bytes text)
 asked_view put.Misfit = misfit

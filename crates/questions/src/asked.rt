@@ -1,9 +1,10 @@
 //! What a request asks that the core doesn't know.
 
-ghost use Rattle.std.specs.Prelude.{◌≡◌, option_map, IfOk};
+ghost use Rattle.std.specs.Prelude.{◌≡◌, codes, option_map, IfOk};
 ghost use Rattle.serde_json.specs.View.{view};
+ghost use Rattle.rpc.specs.Fields.{text_at};
 ghost use Rattle.rpc.specs.Reading.{uri_at};
-ghost use Rattle.questions.specs.Asked.{about_document, asked_by, asked_in, asked_of, asked_view, its_changes, lines_asked, name_asked, named_asked, nodes_asked, place_asked, question_view, range_asked};
+ghost use Rattle.questions.specs.Asked.{about_document, asked_by, asked_in, asked_of, asked_view, grammar_asked, its_changes, lines_asked, name_asked, named_asked, nodes_asked, place_asked, question_view, range_asked};
 
 use definitions::{Position, Range};
 use rpc::{position_at, range_of, text_at, uri_at};
@@ -43,6 +44,8 @@ pub enum Question {
 pub enum Asked {
     /// This of the document of this URI.
     About(String, Question),
+    /// What is wrong with the grammar file of this text, or what settings are guessed for it.
+    Grammar(String),
     /// Its parameters don't fit its method.
     Misfit,
 }
@@ -118,6 +121,17 @@ fn changes_asked(alloc: Global, params: &Value) -> Result<Option<Question>, Allo
     }
 }
 
+/// What `lrls/grammar` asks: of a grammar file of the text that the parameters have.
+fn grammar_asked(alloc: Global, params: &Value) -> Result<Asked, AllocError>
+    ensures { IfOk result (λ asked.
+        asked_view asked ≡ grammar_asked (text_at (codes "text") (view params.now))) }
+{
+    match text_at(params, "text") {
+        Some(text) => Ok(Asked::Grammar(String::from_str(alloc, text)?)),
+        None => Ok(Asked::Misfit),
+    }
+}
+
 /// What a request of this method asks, where the editor's server answers it.
 fn asked_of(alloc: Global, method: &str, params: &Value) -> Result<Option<Asked>, AllocError>
     ensures { IfOk result (λ asked.
@@ -136,6 +150,7 @@ fn asked_of(alloc: Global, method: &str, params: &Value) -> Result<Option<Asked>
         "textDocument/codeAction" => range_asked(params).map(Question::Fixes),
         "lrls/tokens" => lines_asked(params).map(|lines| Question::Rows(lines.0, lines.1)),
         "lrls/nodes" => nodes_asked(params)?,
+        "lrls/grammar" => return Ok(Some(grammar_asked(alloc, params)?)),
         _ => return Ok(None),
     };
     Ok(Some(about_document(alloc, params, question)?))

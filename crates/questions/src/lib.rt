@@ -2,9 +2,10 @@
 //!
 //! `read_content` reads the content of a frame. What the core reads of it is a message of `rpc`;
 //! a request that this doesn't know is read once more, as an `Own` one: a `Question` about a
-//! document, or one whose parameters don't fit. From `initialize` it takes what the editor can
-//! show, a `Client`. `cancels` has the ids of the requests that the contents of frames cancel, and
-//! `question_id` that of a request which can be cancelled.
+//! document, the text of a grammar file that is to be looked at, or one whose parameters don't
+//! fit. From `initialize` it takes what the editor can show, a `Client`. `cancels` has the ids of
+//! the requests that the contents of frames cancel, and `question_id` that of a request which can
+//! be cancelled.
 //!
 //! Words: the *core* is the server of the crate `server`; a *question* is a request about a
 //! document, of the core's methods or of others.

@@ -7,18 +7,21 @@ use std::alloc::{AllocError, Global};
 use std::fmt;
 use toml_writer::write_string;
 
-/// A settings file that says what the settings do, for the grammar in this file.
+/// A settings file that says what the settings do, for the grammar in this file; without a name,
+/// for the one beside it.
 ///
 /// Refuses for memory alone.
 pub fn to_toml(
     alloc: Global,
     grammar: &Grammar,
     settings: &Settings,
-    grammar_file: &str,
+    grammar_file: Option<&str>,
 ) -> Result<String, AllocError> {
     let mut text = String::new(alloc);
     text.push_str("# Settings of lrls-ide: docs/IDE.md says what can stand here.\n")?;
-    push_row(&mut text, "grammar", grammar_file)?;
+    if let Some(file) = grammar_file {
+        push_row(&mut text, "grammar", file)?;
+    }
     let comment = settings.comment.as_ref().map_or("", String::as_str);
     push_row(&mut text, "comment", comment)?;
     push_colours(&mut text, grammar, &settings.colours)?;

@@ -175,7 +175,7 @@ pub fn to_toml(
     alloc: Global,
     grammar: &Grammar,
     settings: &Settings,
-    grammar_file: &str,
+    grammar_file: Option<&str>,
 ) -> Result<String, AllocError> {
     settings_files::to_toml(alloc, grammar, settings, grammar_file)
 }
