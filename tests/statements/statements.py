@@ -27,19 +27,8 @@ from tests.statements.specs import Definitions, files_of, imports_of, lines_of, 
 # The most columns of a line of a contract, and of a line of a definition.
 WIDTH_OF_CONTRACTS = 100
 WIDTH_OF_DEFINITIONS = 140
-WIDTH_OF_DOCSTRINGS = 99
+WIDTH_OF_COMMENTS = 99
 WIDTH_OF_PROOFS = 199
-# How many comments within the code of a file are wider than a docstring may be. To break one proves
-# anew all that stands on its crate.
-WIDE_COMMENTS = {
-    "crates/dfa/src/automaton.rt": 1,
-    "crates/docs/src/doc.rt": 1,
-    "crates/frames/src/decoder.rt": 1,
-    "crates/server/src/changes.rt": 1,
-    "crates/server/src/notifications.rt": 1,
-    "crates/server/src/session.rt": 3,
-}
-
 # The laws under `run`, which no row gives: a row takes each as a premise, so that one that says
 # less no longer fits. They are proved in sessions/src/laws.rt.
 LAWS = (
@@ -114,29 +103,13 @@ def wide_definitions(top: str) -> List[Any]:
     ]
 
 
-def wide_comments(top: str, *begins: str) -> Dict[str, List[str]]:
-    """The lines that begin so and are too wide, by file."""
-    wide: Dict[str, List[str]] = {}
-    for path in files_of(top, "src", ".rt"):
-        place = os.path.relpath(path, top)
-        for number, line in enumerate(lines_of(path), 1):
-            if line.lstrip().startswith(begins) and len(line) > WIDTH_OF_DOCSTRINGS:
-                wide.setdefault(place, []).append(f"{place}:{number}")
-    return wide
-
-
-def wide_docstrings(top: str) -> List[Any]:
-    """The lines of docstrings and of the crates' pages that are too wide."""
-    return [line for lines in wide_comments(top, "///", "//!").values() for line in lines]
-
-
-def more_wide_comments(top: str) -> List[Any]:
-    """The comments within code that are too wide, where a file has more of them than it may."""
+def wide_comments(top: str) -> List[Any]:
+    """The lines of docstrings, of the crates' pages and of other comments that are too wide."""
     return [
-        line
-        for place, lines in wide_comments(top, "// ").items()
-        if len(lines) > WIDE_COMMENTS.get(place, 0)
-        for line in lines
+        f"{os.path.relpath(path, top)}:{number}"
+        for path in files_of(top, "src", ".rt")
+        for number, line in enumerate(lines_of(path), 1)
+        if line.lstrip().startswith("//") and len(line) > WIDTH_OF_COMMENTS
     ]
 
 
@@ -286,8 +259,7 @@ def check(cases: Cases, top: str) -> None:
     counted.check(cases, top)
     cases.check("no line of a contract is too wide", [], wide_clauses(top))
     cases.check("no line of a definition is too wide", [], wide_definitions(top))
-    cases.check("no line of a docstring is too wide", [], wide_docstrings(top))
-    cases.check("no other line of a comment is too wide", [], more_wide_comments(top))
+    cases.check("no line of a comment is too wide", [], wide_comments(top))
     cases.check("no line of a proof is too wide", [], wide_proofs(top))
     cases.check("each name that a contract's file brings in is named there", [], idle_imports(top))
     cases.check(

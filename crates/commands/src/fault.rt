@@ -5,6 +5,7 @@ ghost use Rattle.commands.specs.Status.{status_of, fault_of};
 ghost use Rattle.commands.specs.Texts.{text_of};
 ghost use Rattle.commands.specs.declared.fault.Fault.TheVariants.{Memory};
 
+use crate::status::{FAILURE, REFUSAL};
 use crate::texts::frame_code;
 use frames::FrameFault;
 use grammar::GrammarFault;
@@ -69,14 +70,14 @@ impl Fault {
             | Fault::Grammar(_)
             | Fault::TooManyStates
             | Fault::TooManySets
-            | Fault::NotUtf8 => 2,
+            | Fault::NotUtf8 => REFUSAL,
             Fault::TextNotUtf8
             | Fault::TextTooLarge
             | Fault::CannotRead(_)
             | Fault::Memory
             | Fault::Frame(_)
             | Fault::Read
-            | Fault::Write => 1,
+            | Fault::Write => FAILURE,
         }
     }
 }

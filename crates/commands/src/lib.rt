@@ -28,6 +28,7 @@ mod command_line;
 mod conflicts;
 mod fault;
 mod printed;
+mod status;
 mod tasks;
 mod texts;
 

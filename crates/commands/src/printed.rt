@@ -7,6 +7,7 @@ ghost use Rattle.commands.specs.Texts.{PrintsFault};
 
 use crate::conflicts::conflict_text;
 use crate::fault::Fault;
+use crate::status::REFUSAL;
 use grammar::Grammar;
 use std::alloc::{AllocError, Global};
 use tables::Conflict;
@@ -60,7 +61,7 @@ impl Printed {
         Ok(Printed {
             out: Vec::new(alloc),
             err: conflict_text(alloc, grammar, conflict)?.into_bytes(),
-            status: 2,
+            status: REFUSAL,
         })
     }
 }

@@ -12,6 +12,7 @@ ghost use Rattle.commands.specs.Reporting.{IsChecked, note_line};
 
 use crate::fault::Fault;
 use crate::printed::Printed;
+use crate::status::{FAILURE, SUCCESS};
 use definitions::{Diagnostic, Position, Unit};
 use docs::{Doc, DocFault, Language, LoadFault, Outcome};
 use std::alloc::{AllocError, Global};
@@ -30,16 +31,16 @@ fn load_fault_report(alloc: Global, fault: LoadFault) -> Result<Printed, AllocEr
     }
 }
 
-/// What is printed of what a text comes to.
+/// What is printed of an outcome: the tree of a text with status 0, or its fault with status 1.
 fn outcome_report(alloc: Global, outcome: Outcome) -> Result<Printed, AllocError>
     ensures { IfOk result (λ printed. Prints outcome printed) }
 {
     let (line, status) = match outcome {
         Outcome::Tree(mut text) => {
             text.push('\n')?;
-            (text, 0)
+            (text, SUCCESS)
         }
-        Outcome::Fault(fault) => (fault_line(alloc, &fault)?, 1),
+        Outcome::Fault(fault) => (fault_line(alloc, &fault)?, FAILURE),
     };
     Ok(Printed::text(alloc, line, status))
 }
@@ -91,7 +92,7 @@ pub fn check(alloc: Global, language: &Language) -> Result<Printed, AllocError>
         write_note(&mut out, name)?;
     }
     out.push_str("ok\n")?;
-    Ok(Printed::text(alloc, out, 0))
+    Ok(Printed::text(alloc, out, SUCCESS))
 }
 
 /// A position, as `L:C`.

@@ -37,15 +37,15 @@ pub fn offset_is_greatest()
         IsOffsetOf encoding t p (offset encoding t p) }
 {}
 
-/// The offset of the position of an offset is that offset, for each offset of the text that isn't
-/// between a `\r` and its `\n`.
+/// An offset becomes a position and that position the same offset again, for each offset of the
+/// text that isn't between a `\r` and its `\n`.
 pub fn offset_of_position()
     ensures { (encoding : Encoding) (t : List ℕ) (o : ℕ) → IsInLine t o →
         offset encoding t (position encoding t o) ≡ o }
 {}
 
-/// The position of the offset of a position that counts whole characters of a line is that
-/// position.
+/// A position that counts whole characters of a line becomes an offset, and that offset the same
+/// position again.
 pub fn position_of_offset()
     ensures { (encoding : Encoding) (t : List ℕ) (p : Position) → IsPlace encoding t p →
         position encoding t (offset encoding t p) ≡ p }

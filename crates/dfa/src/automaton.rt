@@ -86,13 +86,13 @@ impl Match {
 
 /// The row of a state, with the part of each of the first 128 characters.
 #[derive(Drop)]
-struct Row<'a> {
+struct StateRow<'a> {
     ascii: &'a [usize],
     /// The entries of the row, and what stands after them.
     entries: &'a [u16],
 }
 
-impl<'a> Model for Row<'a> {
+impl<'a> Model for StateRow<'a> {
     ghost use Rattle.dfa.specs.Stored.{AsciiRow, IsAsciiRow};
 
     ghost Value = { AsciiRow };
@@ -103,7 +103,7 @@ impl<'a> Model for Row<'a> {
         IsAsciiRow (record { ascii = r.ascii.now; entries = r.entries.now }) };
 }
 
-impl<'a> Row<'a> {
+impl<'a> StateRow<'a> {
     /// Whether the character is in ASCII, and the next state there has this number.
     fn leads_to(&self, number: usize, c: char) -> bool
         ensures ascii { IsTrue result → c < 128 }
@@ -168,12 +168,12 @@ impl Automaton {
     }
 
     /// The row of a state.
-    fn row(&self, state: State) -> Row<'_>
+    fn row(&self, state: State) -> StateRow<'_>
         requires { IsState self.now state }
         ensures { (number c : ℕ) → 0 < number → c < 128 → ascii_entry result c ≡ number
             → follower self.now state.number c ≡ Some number }
     {
-        Row {
+        StateRow {
             ascii: self.ascii.as_slice(),
             entries: &self.next[state.row..],
         }
@@ -249,7 +249,8 @@ impl Automaton {
             let Some(next) = self.next(state, c) else {
                 break;
             };
-            // Within a long token most characters keep the state, and nothing else is done for them.
+            // Within a long token most characters keep the state, and nothing else is done for
+            // them.
             if next == state.number {
                 read += 1;
                 if read >= LONG && c.is_ascii() {

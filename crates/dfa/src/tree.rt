@@ -24,9 +24,9 @@ pub enum Tree {
     /// The first part or the second if the flag is set, and otherwise the first, then the second.
     /// The number is how many positions they have.
     Pair(bool, usize, Box<Tree>, Box<Tree>),
-    /// At least once a part that has so many positions.
+    /// One or more repetitions of a part, and how many positions that has.
     Plus(usize, Box<Tree>),
-    /// Once or not at all a part that has so many positions.
+    /// A part that may be left out, and how many positions it has.
     Optional(usize, Box<Tree>),
 }
 

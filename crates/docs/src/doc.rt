@@ -26,6 +26,7 @@ ghost use Rattle.docs.specs.declared.doc.DocFault.TheVariants.{Memory};
 ghost use Rattle.docs.specs.Faults.{doc_fault};
 
 use crate::language::Language;
+use crate::replacing::put;
 use crate::significant::Significant;
 use definitions::{Diagnostic, Edit, Position, Range, Row, Stats, Unit};
 use lexer::Tokens;
@@ -112,8 +113,8 @@ impl Doc {
         // The read opens what a language says of its tables.
         let _tables = language.tables();
         let tokens = language.scan(alloc, &made, text)?;
-        // With this room a store of few nodes for each token doesn't grow, and isn't copied, while it is filled. A sum has one node
-        // more than tokens.
+        // With this room a store of few nodes for each token doesn't grow, and isn't copied, while
+        // it is filled. A sum has one node more than tokens.
         let mut store = Store::with_capacity(alloc, tokens.significant().saturating_add(1))?;
         let kinds = Significant(&tokens);
         let parse = Parse::whole(alloc, language.tables(), &mut store, &kinds)?;
@@ -145,21 +146,15 @@ impl Doc {
         ensures too_large { let text = changed self.unit self.text range (chars new.now) in
             (result ≡ Err DocFault.TooLarge) ↔ (fits text ≡ false) }
     {
-        let before = self.text.len();
         let (from, to) = self.text.span(self.unit, range);
-        self.text.replace(alloc, from, to, new)?;
-        let edit = Edit {
-            at: from,
-            removed: to - from,
-            inserted: self.text.len() - (before - (to - from)),
-            number: self.parse.number().saturating_add(1),
-        };
+        let number = self.parse.number().saturating_add(1);
+        let edit = put(alloc, &mut self.text, from, to, new, number)?;
         self.settle(alloc, language, edit)?;
         Ok(self)
     }
 
-    /// Scans and parses the text after an edit that it has already. Refuses for memory alone; the
-    /// parts of the document don't belong together any more then.
+    /// Scans and parses the text after an edit that it has already. Refuses for memory alone: then
+    /// text, tokens and parse don't agree, and the document is lost.
     pub(crate) fn settle(
         &mut self,
         alloc: Global,

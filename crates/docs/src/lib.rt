@@ -31,6 +31,7 @@ mod doc;
 mod language;
 pub mod laws;
 mod pending;
+mod replacing;
 mod significant;
 
 pub use definitions::{Diagnostic, Position, Range, Row, Stats, Unit};

@@ -14,6 +14,7 @@ ghost use Rattle.docs.specs.declared.doc.DocFault.TheVariants.{Memory};
 
 use crate::doc::{Doc, DocFault};
 use crate::language::Language;
+use crate::replacing::put;
 use definitions::{Edit, Range};
 use std::alloc::{AllocError, Global};
 
@@ -121,7 +122,8 @@ impl Pending {
         Ok(())
     }
 
-    /// The same where a change of these characters is scanned apart.
+    /// Scans and parses first where a change of these characters doesn't touch the pending ones.
+    /// Refuses for memory alone.
     fn settle_apart(
         &mut self,
         alloc: Global,
@@ -175,15 +177,8 @@ impl Pending {
     {
         let (from, to) = self.doc.text.span(self.doc.unit, range);
         self.settle_apart(alloc, language, from, to)?;
-        let before = self.doc.text.len();
-        self.doc.text.replace(alloc, from, to, new)?;
-        let inserted = self.doc.text.len() - (before - (to - from));
-        let change = Edit {
-            at: from,
-            removed: to - from,
-            inserted,
-            number: self.number().saturating_add(1),
-        };
+        let number = self.number().saturating_add(1);
+        let change = put(alloc, &mut self.doc.text, from, to, new, number)?;
         self.edit = Some(joined(self.edit, change));
         Ok(())
     }

@@ -235,7 +235,8 @@ impl Decoder {
         ensures ended { IfSome (fault_of self.old) (λ fault.
             IsErrOf result fault × (self.new ≡ self.old)) }
 
-        // Each piece makes something of the stream, also one that isn't taken because memory was refused.
+        // Each piece makes something of the stream, also one that isn't taken because memory was
+        // refused.
         ensures goes_on { (contents : List (List ℕ)) × (new : Tail) ×
             GoesOn self.old piece.now contents new }
 

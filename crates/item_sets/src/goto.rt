@@ -6,7 +6,7 @@ ghost use Rattle.item_sets.specs.States.{IsKernelAfter};
 ghost use Rattle.productions.specs.Symbols.{symbol_of};
 
 use crate::item::Item;
-use productions::{AugmentedGrammar, Row, empty_rows, number_of};
+use productions::{AugmentedGrammar, Bucket, empty_buckets, number_of};
 use std::alloc::{AllocError, Global};
 
 /// The kernels after the symbols, by the numbers of these.
@@ -14,7 +14,7 @@ pub fn kernels_after(
     alloc: Global,
     grammar: &AugmentedGrammar,
     items: &[Item],
-) -> Result<Vec<Row<Item>>, AllocError>
+) -> Result<Vec<Bucket<Item>>, AllocError>
     requires known { All (IsItem grammar.now) items.now }
     requires rising { IsRising items.now }
     ensures count { IfOk result (λ kernels. length kernels.items
@@ -23,7 +23,7 @@ pub fn kernels_after(
         → IsKernelAfter grammar.now items.now (symbol_of grammar.now.grammar k)
         (slice_index_or kernels.items k [])) }
 {
-    let mut kernels = empty_rows(alloc, grammar.symbols())?;
+    let mut kernels = empty_buckets(alloc, grammar.symbols())?;
     for item in items {
         if let Some(symbol) = item.next(grammar) {
             let kernel = &mut kernels[number_of(grammar, symbol)];

@@ -177,13 +177,13 @@ impl Tokens {
             (S.text source.now) (plain_splice s) self.old self.new) }
         ensures err { OnErr result (self.new ≡ self.old) }
     {
-        let (kept_before, end) = kept_prefix(&self.items, edit);
-        let old = Walk::new(&self.items, kept_before, end);
+        let kept = kept_prefix(&self.items, edit);
+        let old = Walk::new(&self.items, kept.count, kept.end);
         let scan = Scan::new(grammar, automaton);
         let (made, to) = remake(alloc, &scan, source, edit, old)?;
         let kinds = kinds_of(alloc, &made)?;
-        let splice = splice_of(&self.items, kept_before, to, kinds);
-        self.items.replace(alloc, kept_before, to, &made)?;
+        let splice = splice_of(&self.items, kept, to, kinds);
+        self.items.replace(alloc, kept.count, to, &made)?;
         self.scanned = made.len();
         Ok(splice)
     }
@@ -203,17 +203,34 @@ fn append(
     Ok(())
 }
 
-/// How many tokens the edit keeps at the start, and the offset after them.
-fn kept_prefix(items: &Runs<PackedToken>, edit: Edit) -> (usize, usize)
+/// The tokens at the start that an edit keeps.
+#[derive(Clone, Copy)]
+struct Kept {
+    /// How many they are.
+    count: usize,
+    /// How many of them are significant.
+    significant: usize,
+    /// The offset after them.
+    end: usize,
+}
+
+/// The tokens at the start that the edit keeps.
+fn kept_prefix(items: &Runs<PackedToken>, edit: Edit) -> Kept
     requires { Fits items.now }
     ensures kept_before { (rules : List Expression) (t : List ℕ)
         → AreTokens rules t (plain_all items.now)
-        → result.0 ≡ kept_before edit (plain_all items.now) }
-    ensures end { result.1 ≡ characters (take result.0 items.now) }
-    ensures within { result.0 ≤ length items.now }
+        → result.count ≡ kept_before edit (plain_all items.now) }
+    ensures significant { result.significant
+        ≡ count_by is_significant (take result.count items.now) }
+    ensures end { result.end ≡ characters (take result.count items.now) }
+    ensures within { result.count ≤ length items.now }
 {
-    let (kept_before, before) = items.locate(&MoreThan::Reach(edit.at));
-    (kept_before, before.characters as usize)
+    let (count, before) = items.locate(&MoreThan::Reach(edit.at));
+    Kept {
+        count,
+        significant: before.significant as usize,
+        end: before.characters as usize,
+    }
 }
 
 /// Where offset `at` of the new text lies after what was inserted and an old token started there:
@@ -330,20 +347,16 @@ fn have_kinds(items: &Runs<PackedToken>, from: usize, to: usize, kinds: &[Kind])
     left.len() == 0
 }
 
-/// How the list of the significant kinds changes where the tokens from one place up to another
-/// give way to tokens of these kinds.
-fn splice_of(
-    items: &Runs<PackedToken>,
-    kept_before: usize,
-    to: usize,
-    mut kinds: Vec<Kind>,
-) -> KindSplice
+/// How the list of the significant kinds changes where the tokens from those kept at the start up
+/// to a place give way to tokens of these kinds.
+fn splice_of(items: &Runs<PackedToken>, kept: Kept, to: usize, mut kinds: Vec<Kind>) -> KindSplice
     requires fits { Fits items.now }
     requires within { to ≤ length items.now }
-    ensures { plain_splice result ≡ change items.now kept_before to kinds.items }
+    requires counted { kept.significant ≡ count_by is_significant (take kept.count items.now) }
+    ensures { plain_splice result ≡ change items.now kept.count to kinds.items }
 {
-    let from = significant_before(items, kept_before);
-    if have_kinds(items, kept_before, to, &kinds) {
+    let from = kept.significant;
+    if have_kinds(items, kept.count, to, &kinds) {
         kinds.clear();
         return KindSplice {
             from,

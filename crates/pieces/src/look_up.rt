@@ -21,9 +21,9 @@ impl Pieces {
         ensures { result ≡ of.position unit (text_in self.now) offset }
     {
         let pieces = self.seq();
-        let (place, before) = pieces.locate(&AfterCharacter { offset });
-        let prefix = Prefix::new(unit, before);
-        let Some(piece) = pieces.get(place) else {
+        let found = pieces.find(&AfterCharacter { offset });
+        let prefix = Prefix::new(unit, found.before);
+        let Some(piece) = found.item else {
             return prefix.position(false);
         };
         let (prefix, before_feed) = prefix.with_first(
@@ -42,9 +42,9 @@ impl Pieces {
         ensures within { result ≤ length (text_in self.now) }
     {
         let pieces = self.seq();
-        let (place, before) = pieces.locate(&AfterPosition { unit, position });
-        let prefix = Prefix::new(unit, before);
-        let Some(piece) = pieces.get(place) else {
+        let found = pieces.find(&AfterPosition { unit, position });
+        let prefix = Prefix::new(unit, found.before);
+        let Some(piece) = found.item else {
             return prefix.end_in_line(position.line);
         };
         prefix.offset_in(unit, piece.text(), position)

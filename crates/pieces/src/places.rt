@@ -97,19 +97,19 @@ impl Pieces {
         ensures { IsCut self.now offset result }
     {
         let pieces = self.seq();
-        let (place, before) = pieces.locate(&AfterCharacter { offset });
-        let before_place = bytes_in(before);
-        let Some(piece) = pieces.get(place) else {
+        let found = pieces.find(&AfterCharacter { offset });
+        let before_place = bytes_in(found.before);
+        let Some(piece) = found.item else {
             return Cut {
-                piece: place,
+                piece: found.place,
                 bytes: before_place,
                 prefix: "",
                 back: "",
             };
         };
-        let (prefix, back) = split(piece, offset - characters_in(before));
+        let (prefix, back) = split(piece, offset - characters_in(found.before));
         Cut {
-            piece: place,
+            piece: found.place,
             bytes: before_place + prefix.len(),
             prefix,
             back,

@@ -5,10 +5,10 @@ ghost use Rattle.productions.specs.Lookaheads.{rank};
 ghost use Rattle.productions.specs.Productions.{IsKnown, IsSound, AreByLeft};
 ghost use Rattle.theory.specs.First.{MayFollow};
 
+use crate::bucket::{Bucket, empty_buckets};
 use crate::first::First;
 use crate::production_number::ProductionNumber;
 use crate::productions::Productions;
-use crate::row::{Row, empty_rows};
 use definitions::Symbol;
 use std::alloc::{AllocError, Global};
 use std::marker::Model;
@@ -20,7 +20,7 @@ pub struct AugmentedGrammar {
     /// The productions of the grammar.
     productions: Productions,
     /// For each nonterminal the numbers of the productions that have it on the left.
-    by_left: Vec<Row<ProductionNumber>>,
+    by_left: Vec<Bucket<ProductionNumber>>,
     /// What the symbols can begin with.
     first: First,
 }
@@ -40,17 +40,17 @@ impl Model for AugmentedGrammar {
 fn by_left(
     alloc: Global,
     productions: &Productions,
-) -> Result<Vec<Row<ProductionNumber>>, AllocError>
+) -> Result<Vec<Bucket<ProductionNumber>>, AllocError>
     requires { IsSound productions.now }
-    ensures { IfOk result (λ rows. AreByLeft productions.now rows.items) }
+    ensures { IfOk result (λ buckets. AreByLeft productions.now buckets.items) }
 {
-    let mut rows = empty_rows(alloc, productions.nonterminals())?;
+    let mut buckets = empty_buckets(alloc, productions.nonterminals())?;
     for index in 0..productions.len() {
         let p = ProductionNumber { index };
-        let row = &mut rows[productions.left(p)];
-        row.add(p)?;
+        let bucket = &mut buckets[productions.left(p)];
+        bucket.add(p)?;
     }
-    Ok(rows)
+    Ok(buckets)
 }
 
 impl AugmentedGrammar {

@@ -4,8 +4,8 @@
 //! `Productions::new` begins the productions, and `push` adds one. `AugmentedGrammar::of` takes
 //! them and computes the sets; `may_follow` returns whether a lookahead can come after symbols,
 //! `right` and `left` the sides of a production, `of_left` those of a nonterminal, `symbol_at` the
-//! symbol of a number, and `lookahead_at` the lookahead of a column. A `Row` is a list within a
-//! list, and `empty_rows` makes some.
+//! symbol of a number, and `lookahead_at` the lookahead of a column. A `Bucket` is a list
+//! within a list, and `empty_buckets` makes some.
 //!
 //! Words: a *rule* is a token rule, by its number; a *lookahead* is a rule, or `None` for the end;
 //! its *column* is its place among them, the end first; the *number* of a symbol counts the rules,
@@ -30,18 +30,18 @@
 #![tactic(auto)]
 
 mod augmented;
+mod bucket;
 mod first;
 mod lookahead;
 mod marks;
 mod production_number;
 mod productions;
-mod row;
 mod symbols;
 
 pub use augmented::AugmentedGrammar;
+pub use bucket::{Bucket, empty_buckets};
 pub use lookahead::lookahead_at;
 pub use marks::Marks;
 pub use production_number::ProductionNumber;
 pub use productions::{Production, Productions};
-pub use row::{Row, empty_rows};
 pub use symbols::{number_of, symbol_at};

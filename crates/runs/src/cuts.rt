@@ -38,11 +38,11 @@ pub fn cut_with_sum<T: Measured>(runs: &Seq<Run<T>>, offset: usize) -> (Cut<'_, 
     ensures sum { result.1
         ≡ total T.Sum.empty T.Sum.op T.measure (flattened (take result.0.run runs.now)) }
 {
-    let (place, before) = runs.locate(&AfterItem { offset });
-    let Counted { items, sum } = before;
-    let Some(run) = runs.get(place) else {
+    let found = runs.find(&AfterItem { offset });
+    let Counted { items, sum } = found.before;
+    let Some(run) = found.item else {
         let cut = Cut {
-            run: place,
+            run: found.place,
             prefix: &[],
             back: &[],
         };
@@ -50,7 +50,7 @@ pub fn cut_with_sum<T: Measured>(runs: &Seq<Run<T>>, offset: usize) -> (Cut<'_, 
     };
     let (prefix, back) = run.items().split_at(offset - items);
     let cut = Cut {
-        run: place,
+        run: found.place,
         prefix,
         back,
     };

@@ -103,9 +103,9 @@ impl<T: Measured + Copy> Runs<T> {
             (take (result.0 + 1) self.now))) }
     {
         let runs = self.seq();
-        let (place, before) = runs.locate(&OfSum { goal });
-        let Counted { items, sum } = before;
-        let Some(run) = runs.get(place) else {
+        let found = runs.find(&OfSum { goal });
+        let Counted { items, sum } = found.before;
+        let Some(run) = found.item else {
             return (items, sum);
         };
         let (within, sum) = locate_in(run.items(), sum, goal);

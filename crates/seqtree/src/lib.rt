@@ -4,19 +4,19 @@
 //! `Seq::new` is an empty list; `replace` puts items in the place of others, and returns those
 //! that were there. `Slots::make` allocates the memory that new items need beforehand, so
 //! `replace` takes none and can't fail. `total` is the sum of all, and `locate` finds the least
-//! place where a sum from the left reaches a `Goal`. `Chunks` is a list whose items lie in chunks,
-//! so that a node of a `Seq` holds many: its `replace` puts items in the place of some chunks, and
-//! cuts them into chunks with their neighbour's where they alone would be too few. `cut_up` is the
-//! chunks of items.
+//! place where a sum from the left reaches a `Goal`; `find` returns the item there too. `Chunks`
+//! is a list whose items lie in chunks, so that a node of a `Seq` holds many: its `replace` puts
+//! items in the place of some chunks, and cuts them into chunks with their neighbour's where they
+//! alone would be too few. `cut_up` is the chunks of items.
 //!
 //! Words: the items are `Measured`, by a sum that is a `Monoid`: here the pieces of a text, by
 //! their characters and breaks. A *chunk* is some items that lie together, by the trait `Chunk`;
 //! its *size* is a number that adds up as items are joined, and it is *small* where that is less
 //! than `SHORTEST`.
 //!
-//! Limits: as many items as `usize` counts. `replace`, `get` and `locate` take steps logarithmic
-//! in the length, and `replace` also one for each new item. Of chunks at most one is small, and
-//! none has more than `LONGEST`.
+//! Limits: as many items as `usize` counts. `replace`, `get`, `locate` and `find` take steps
+//! logarithmic in the length, and `replace` also one for each new item. Of chunks at most one is
+//! small, and none has more than `LONGEST`.
 //!
 //! ```
 //! let mut pieces: Seq<Piece> = Seq::new();
@@ -34,6 +34,7 @@ ghost use Rattle.seqtree.specs.Goal.{StaysReached};
 
 mod chunk;
 mod chunks;
+mod found;
 mod iter;
 mod seq;
 mod stack;
@@ -41,6 +42,7 @@ mod tree;
 
 pub use chunk::Chunk;
 pub use chunks::{Chunks, cut_up};
+pub use found::Found;
 pub use iter::Iter;
 pub use seq::{Seq, Slots};
 

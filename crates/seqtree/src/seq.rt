@@ -4,7 +4,7 @@ ghost use Rattle.seqtree.specs.Monoid.{total};
 ghost use Rattle.seqtree.specs.Tree.{digits};
 
 use crate::tree::{self, Node, Tree};
-use crate::{Goal, Iter, Measured};
+use crate::{Found, Goal, Iter, Measured};
 use std::alloc::{AllocError, Global};
 use std::marker::Model;
 
@@ -96,7 +96,24 @@ impl<T: Measured> Seq<T> {
             IsTrue (G.reaches goal.now (total T.Sum.empty T.Sum.op T.measure
             (take (result.0 + 1) self.now))) }
     {
-        tree::locate(&self.root, goal)
+        let found = self.find(goal);
+        (found.place, found.before)
+    }
+
+    /// What `locate` gives, with the item at this place, if there is one: one way down for both.
+    pub fn find<G: Goal<T::Sum>>(&self, goal: &G) -> Found<'_, T>
+        ensures within { result.place ≤ length self.now }
+        ensures before { result.before
+            ≡ total T.Sum.empty T.Sum.op T.measure (take result.place self.now) }
+        ensures not_before { (k : ℕ) → k < result.place →
+            G.reaches goal.now (total T.Sum.empty T.Sum.op T.measure (take (k + 1) self.now))
+            ≡ false }
+        ensures reached { result.place < length self.now →
+            IsTrue (G.reaches goal.now (total T.Sum.empty T.Sum.op T.measure
+            (take (result.place + 1) self.now))) }
+        ensures item { option_copied result.item ≡ slice_get self.now result.place }
+    {
+        tree::find(&self.root, goal)
     }
 
     /// Puts the given items in the place of `from..to`, and returns the removed ones. Takes no

@@ -4,6 +4,7 @@ ghost use Rattle.seqtree.specs.Tree.{items_of, height_of, DifferByAtMost, IsLow}
 ghost use Rattle.seqtree.specs.Monoid.{total};
 ghost use Rattle.seqtree.specs.Goal.{IsLeast};
 
+use crate::found::Found;
 use crate::{Goal, Measured, Monoid};
 use std::alloc::{AllocError, Global};
 use std::marker::Model;
@@ -344,10 +345,12 @@ pub fn last<T: Measured>(
     Ok(Some(join(left, root, right)))
 }
 
-/// How many items go before the one at which the sum reaches the goal, and their sum.
-pub fn locate<T: Measured, G: Goal<T::Sum>>(tree: &Tree<T>, goal: &G) -> (usize, T::Sum)
-    ensures { IsLeast T.Sum.empty T.Sum.op T.measure
-        (G.reaches goal.now) T.Sum.empty (items_of tree.now) result.0 result.1 }
+/// The item at which the sum reaches the goal, if there is one, how many go before it, and their
+/// sum.
+pub fn find<'a, T: Measured, G: Goal<T::Sum>>(tree: &'a Tree<T>, goal: &G) -> Found<'a, T>
+    ensures least { IsLeast T.Sum.empty T.Sum.op T.measure
+        (G.reaches goal.now) T.Sum.empty (items_of tree.now) result.place result.before }
+    ensures item { option_copied result.item ≡ slice_get (items_of tree.now) result.place }
 {
     // Read for the proof: so many items fit.
     let _all = count(tree);
@@ -364,11 +367,19 @@ pub fn locate<T: Measured, G: Goal<T::Sum>>(tree: &Tree<T>, goal: &G) -> (usize,
         let past_root = at_root.join(&node.item.sum());
         let n = count(&node.left);
         if goal.reached(&past_root) {
-            return (at + n, at_root);
+            return Found {
+                place: at + n,
+                before: at_root,
+                item: Some(&node.item),
+            };
         }
         before = past_root;
         at = at + n + 1;
         below = &node.right;
     }
-    (at, before)
+    Found {
+        place: at,
+        before,
+        item: get(tree, at),
+    }
 }

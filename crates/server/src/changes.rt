@@ -81,7 +81,7 @@ fn apply_uncounted(
 }
 
 /// The document of this version after the changes in turn, or how it is lost by the first of them
-/// that is refused. Only of the last change counts are reported, so the ones before it may be
+/// that is refused. Counts are reported for the last change only, so the ones before it may be
 /// scanned and parsed together.
 pub fn apply_changes(
     alloc: Global,
@@ -95,7 +95,8 @@ pub fn apply_changes(
         Becomes language.now.file version (open_document doc) changes (entry_view result) }
     ensures current { IsEntryOf language.now result }
 {
-    // Where the numbers of edits end, they share the last one, and what each makes is counted by what the one before it made.
+    // Where the numbers of edits end, they share the last one, and what each makes is counted by
+    // what the one before it made.
     let numbers_left = u64::MAX - doc.stats().edit;
     let count = changes.len();
     if count <= 1 || count as u64 > numbers_left {

@@ -113,7 +113,8 @@ impl Server {
             Some(Entry::Lost(_)) => return Ok(nothing(alloc)),
             Some(Entry::Open(_)) => {}
         }
-        // what is held stays under its URI, so that no memory is needed for the document that comes back
+        // what is held stays under its URI, so that no memory is needed for the document that
+        // comes back
         let Some(Entry::Open(doc)) = self.documents.take(uri.as_str()) else {
             unreachable!();
         };

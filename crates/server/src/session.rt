@@ -36,8 +36,8 @@ pub fn run<R: Input, W: Output>(
     ensures session { let old = W.contents output.old in
         let new = W.contents output.new in
         Session language.file (R.remaining input.old) (R.remaining input.new) old new result }
-    // In each session the one answer to each question about an open document, `lr/stats` aside, is that of a fresh server on
-    // its text, and so are its last diagnostics.
+    // In each session the one answer to each question about an open document, `lr/stats` aside, is
+    // that of a fresh server on its text, and so are its last diagnostics.
     ensures fresh { EveryAnswerIsFresh language.file }
     // The text of an open document is its edits, applied in turn.
     ensures edits { EachTextIsItsEdits }
@@ -46,13 +46,15 @@ pub fn run<R: Input, W: Output>(
         All IsSpelled (texts_of received) }
     // A document is lost as too large exactly where its text has too many bytes.
     ensures too_large { TooLargeIsExact language.file }
-    // What a run sends about a document is a function of what it receives about it, and no other message changes the document.
+    // What a run sends about a document is a function of what it receives about it, and no other
+    // message changes the document.
     ensures alone { EachDocumentIsAlone language.file }
     ensures histories { EachRunHasAHistory }
     ensures by_history { HistoriesDecide language.file }
     // Messages about other documents, or about none, can be left out, but for those of the phase.
     ensures left_out { OthersCanBeLeftOut language.file }
-    // In each run a request gets one reply, with its id and in order, a notification none, and nothing is sent after `exit`.
+    // In each run a request gets one reply, with its id and in order, a notification none, and
+    // nothing is sent after `exit`.
     ensures replies { EachRequestIsAnswered }
     ensures notifications { NoNotificationIsAnswered }
     ensures exit { NothingIsSentAfterExit }

@@ -23,6 +23,9 @@ use std::alloc::Global;
 /// How many bytes are read at once: as many as a pipe of Linux holds.
 const BUFFER_LEN: usize = 65_536;
 
+/// The exit status where the input ends without `exit`.
+const END_WITHOUT_EXIT: u8 = 1;
+
 /// Writes a frame for each reply, in order.
 fn write_replies<W: Output>(
     alloc: Global,
@@ -106,12 +109,12 @@ fn flush<W: Output>(output: &mut W) -> Result<(), RunFault>
     }
 }
 
-/// What the end of the input means.
+/// The exit status where the input ends without `exit`, or the fault of a frame cut short.
 fn end_of(decoder: &Decoder) -> Result<u8, RunFault>
     ensures { EndsAt result decoder.now }
 {
     match decoder.finish() {
-        Ok(()) => Ok(1),
+        Ok(()) => Ok(END_WITHOUT_EXIT),
         Err(fault) => Err(RunFault::Frame(fault)),
     }
 }

@@ -9,7 +9,7 @@ ghost use Rattle.std.specs.Prelude.{max, nat_le};
 ghost use Rattle.surface_texts.specs.Maxima.{max_left_unit, max_right_unit, max_assoc, max_stays};
 
 use runs::{Run, Runs};
-use seqtree::{Chunk, Goal, Iter, Measured, Monoid, Seq, Slots};
+use seqtree::{Chunk, Found, Goal, Iter, Measured, Monoid, Seq, Slots};
 use std::alloc::{AllocError, Global};
 
 /// `Monoid`: `zero` and `join`.
@@ -88,6 +88,22 @@ pub fn locate<T: Measured, G: Goal<T::Sum>>(list: &Seq<T>, goal: &G) -> (usize, 
         (take (result.0 + 1) list.now))) }
 {
     list.locate(goal)
+}
+
+/// `Seq::find`.
+pub fn find<'a, T: Measured, G: Goal<T::Sum>>(list: &'a Seq<T>, goal: &G) -> Found<'a, T>
+    ensures within { result.place ≤ length list.now }
+    ensures before { result.before
+        ≡ total T.Sum.empty T.Sum.op T.measure (take result.place list.now) }
+    ensures not_before { (k : ℕ) → k < result.place →
+        G.reaches goal.now (total T.Sum.empty T.Sum.op T.measure (take (k + 1) list.now))
+        ≡ false }
+    ensures reached { result.place < length list.now →
+        IsTrue (G.reaches goal.now (total T.Sum.empty T.Sum.op T.measure
+        (take (result.place + 1) list.now))) }
+    ensures item { option_copied result.item ≡ slice_get list.now result.place }
+{
+    list.find(goal)
 }
 
 /// `Slots::make`.

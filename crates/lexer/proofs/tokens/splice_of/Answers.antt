@@ -14,13 +14,13 @@ other_change xs kept_before to from past kinds f t e = rw (e, f, t) refl
 pub returns-then-have_kinds : goal.returns-then-have_kinds
 returns-then-have_kinds c =
     let xs = c.args.items.now in
-    let from = c.significant_before-from.result in
+    let from = c.args.kept.significant in
     ap (λ ks. record { from = from; to = from; kinds = ks }) c.clear.ensures.items
-    ∙ same_change xs c.args.kept_before c.args.to from c.args.kinds.items c.significant_before-from.ensures
-    (ap (same_kinds (significant_kinds (slice_range xs c.args.kept_before c.args.to))) (sym c.deref.ensures.value) ∙ sym c.have_kinds.ensures ∙ c.if-have_kinds.true)
+    ∙ same_change xs c.args.kept.count c.args.to from c.args.kinds.items c.requires.counted
+    (ap (same_kinds (significant_kinds (slice_range xs c.args.kept.count c.args.to))) (sym c.deref.ensures.value) ∙ sym c.have_kinds.ensures ∙ c.if-have_kinds.true)
 
 pub returns : goal.returns
 returns c =
     let xs = c.args.items.now in
-    other_change xs c.args.kept_before c.args.to c.significant_before-from.result c.significant_before.result c.args.kinds.items c.significant_before-from.ensures c.significant_before.ensures
-    (ap (same_kinds (significant_kinds (slice_range xs c.args.kept_before c.args.to))) (sym c.deref.ensures.value) ∙ sym c.have_kinds.ensures ∙ c.if-have_kinds.false)
+    other_change xs c.args.kept.count c.args.to c.args.kept.significant c.significant_before.result c.args.kinds.items c.requires.counted c.significant_before.ensures
+    (ap (same_kinds (significant_kinds (slice_range xs c.args.kept.count c.args.to))) (sym c.deref.ensures.value) ∙ sym c.have_kinds.ensures ∙ c.if-have_kinds.false)

@@ -15,7 +15,7 @@ record IsReplacement (lexicon : Lexicon) (e : Edit) (xs : List Token) (u : List 
   after : (scanned : ℕ) (s : Splice) → s ≡ change xs n to (significant_kinds made) → AreTokensAfter lexicon e u s (next_of xs scanned) (next_of (take n xs ++ (made ++ drop to xs)) (length made))
 
 replacement : (g : _) (c : In_ok-made g) → IsReplacement (lexicon_of c.args.grammar.now) c.args.edit c.self.inside.items
-    (g.S.Source.text c.args.source.now) c.in_ok-made.made.items c.in_ok-made.to c.kept_prefix-kept_before.result.0
+    (g.S.Source.text c.args.source.now) c.in_ok-made.made.items c.in_ok-made.to c.kept_prefix-kept.result.count
 replacement g c =
     let xs = c.self.inside.items in
     let e = c.args.edit in
@@ -26,7 +26,7 @@ replacement g c =
     let h : IsEdited lexicon e xs u = subst (λ d. IsEdited lexicon e d.items u) (sym c.self.view_is) c.requires.edited in
     let r : IsRemade lexicon e xs u made to = subst (λ f. IsRemade f e xs u made to) c.new-scan.ensures
     (subst (λ s. IsRemade c.new-scan.result e s.items u made to) c.new-old.ensures c.in_ok-made.ensures) in
-    subst (IsReplacement lexicon e xs u made to) (sym (c.kept_prefix-kept_before.ensures.kept_before lexicon.patterns h.text h.tokens.tokens)) (record {
+    subst (IsReplacement lexicon e xs u made to) (sym (c.kept_prefix-kept.ensures.kept_before lexicon.patterns h.text h.tokens.tokens)) (record {
       ordered = prefix_to lexicon e xs u h made to r c.self.invariant;
       within = r.within;
       fits = remade_fits lexicon e xs u h made to r c.self.invariant c.requires.small;
@@ -34,9 +34,9 @@ replacement g c =
     })
 
 -- the list with these tokens in it
-list : (g : _) (c : In_ok-replace g) → c.replace.new.self ≡ take c.kept_prefix-kept_before.result.0 c.self.inside.items ++ (c.in_ok-made.made.items ++ drop c.in_ok-made.to c.self.inside.items)
+list : (g : _) (c : In_ok-replace g) → c.replace.new.self ≡ take c.kept_prefix-kept.result.count c.self.inside.items ++ (c.in_ok-made.made.items ++ drop c.in_ok-made.to c.self.inside.items)
 list g c =
-    let kept = take c.kept_prefix-kept_before.result.0 c.self.inside.items in
+    let kept = take c.kept_prefix-kept.result.count c.self.inside.items in
     let rest = drop c.in_ok-made.to c.self.inside.items in
     c.in_ok-replace.ensures.list ∙ append_assoc kept c.deref-2.result.now rest ∙ ap (λ ys. kept ++ (ys ++ rest)) c.deref-2.ensures.value
 
@@ -66,7 +66,7 @@ returns g c =
     let u = g.S.Source.text c.args.source.now in
     let count : vec_len c.in_ok-made.made ≡ length made = search rules in
     let splice = plain_splice c.splice_of-splice.result in
-    let shown = c.splice_of-splice.ensures ∙ ap (change xs c.kept_prefix-kept_before.result.0 c.in_ok-made.to) (c.in_ok-kinds.ensures ∙ ap significant_kinds c.deref.ensures.value) in
+    let shown = c.splice_of-splice.ensures ∙ ap (change xs c.kept_prefix-kept.result.count c.in_ok-made.to) (c.in_ok-kinds.ensures ∙ ap significant_kinds c.deref.ensures.value) in
     let next = ap (λ items. next_of items (length made)) (sym (list g at.In_ok-replace)) ∙ ap (next_of c.replace.new.self) (sym (c.len-self-inside.ensures ∙ count)) in
     record {
       after = subst (λ (old : TokenList). AreTokensAfter lexicon c.args.edit u splice old (next_of c.replace.new.self c.len-self-inside.result)) c.self.view_is

@@ -1,5 +1,5 @@
-//! Rows of items. A row is a type of its own, since a contract sees a vector of rows as a list of
-//! lists.
+//! Buckets of items. A bucket is a type of its own, since a contract sees a vector of buckets as a
+//! list of lists.
 ghost use Rattle.std.specs.Prelude.{◌≡◌, ◌∷◌, ◌++◌, ℕ, [], IfOk, OnOk, length, slice_index_or};
 
 use std::alloc::{AllocError, Global};
@@ -7,11 +7,11 @@ use std::marker::Model;
 
 /// Items in order.
 #[derive(Drop)]
-pub struct Row<T> {
+pub struct Bucket<T> {
     items: Vec<T>,
 }
 
-impl<T> Model for Row<T> {
+impl<T> Model for Bucket<T> {
     ghost use Rattle.std.specs.Prelude.{List};
 
     ghost Value = { List T };
@@ -19,12 +19,12 @@ impl<T> Model for Row<T> {
     ghost view = { λ r. r.items.items };
 }
 
-impl<T: Drop> Row<T> {
+impl<T: Drop> Bucket<T> {
     /// No item.
-    fn new(alloc: Global) -> Row<T>
+    fn new(alloc: Global) -> Bucket<T>
         ensures { result ≡ [] }
     {
-        Row {
+        Bucket {
             items: Vec::new(alloc),
         }
     }
@@ -45,14 +45,14 @@ impl<T: Drop> Row<T> {
     }
 }
 
-/// `count` empty rows.
-pub fn empty_rows<T: Drop>(alloc: Global, count: usize) -> Result<Vec<Row<T>>, AllocError>
-    ensures count { IfOk result (λ rows. length rows.items ≡ count) }
-    ensures empty { IfOk result (λ rows. (n : ℕ) → slice_index_or rows.items n [] ≡ []) }
+/// `count` empty buckets.
+pub fn empty_buckets<T: Drop>(alloc: Global, count: usize) -> Result<Vec<Bucket<T>>, AllocError>
+    ensures count { IfOk result (λ buckets. length buckets.items ≡ count) }
+    ensures empty { IfOk result (λ buckets. (n : ℕ) → slice_index_or buckets.items n [] ≡ []) }
 {
-    let mut rows = Vec::new(alloc);
+    let mut buckets = Vec::new(alloc);
     for _n in 0..count {
-        rows.push(Row::new(alloc))?;
+        buckets.push(Bucket::new(alloc))?;
     }
-    Ok(rows)
+    Ok(buckets)
 }

@@ -1,5 +1,5 @@
 use Rattle.std.proofs.Common.{rules}
-use Rattle.dfa.proofs.automaton.Row.leads_to.Goals as goal
+use Rattle.dfa.proofs.automaton.StateRow.leads_to.Goals as goal
 
 pub returns-then-is_ascii-clause-led : goal.returns-then-is_ascii-clause-led
 returns-then-is_ascii-clause-led c = search rules
