@@ -17,7 +17,7 @@ Row = Tuple[str, str, Sequence[Tuple[int, int, str, str]]]
 Token = Tuple[str, int, int, int, int]
 BEHIND: List[Row] = [
     ("script", "let x = 1;\n", []),
-    ("script", "let x = 1\n", [(1, 0, "unexpected the end of the text; expected", "")]),
+    ("script", "let x = 1\n", [(1, 0, "unexpected end of the text; expected", "")]),
     (
         "script",
         "let = 1;\nlet y = 2;\nlet z = 3;\nlet a = 4;\nlet b = (5;\nlet c = 6;\n",
@@ -69,7 +69,7 @@ BEHIND: List[Row] = [
         [
             (1, 0, 'unexpected "local"; expected', ""),
             (2, 0, 'unexpected "print"; expected ")"', 'if "=" is left out at 1:9'),
-            (8, 0, "unexpected the end of the text; expected", 'if ")" is put in at 2:13'),
+            (8, 0, "unexpected end of the text; expected", 'if ")" is put in at 2:13'),
         ],
     ),
 ]

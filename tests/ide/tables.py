@@ -223,7 +223,7 @@ MESSAGES: List[Tuple[str, str, str, Optional[str]]] = [
         OPERATORS,
     ),
     ("script", "let = 1;", 'unexpected "="; expected a name', None),
-    ("script", "let x", 'unexpected the end of the text; expected ";" or "="', None),
+    ("script", "let x", 'unexpected end of the text; expected ";" or "="', None),
     ("script", "let ?", 'unexpected "?", which begins no token; expected a name', None),
     ("script", "let \x01", "unexpected U+0001, which begins no token; expected a name", None),
     (
@@ -237,7 +237,7 @@ MESSAGES: List[Tuple[str, str, str, Optional[str]]] = [
     (
         "json",
         "",
-        'unexpected the end of the text; expected "{", "[", "true", "false", "null", a number, ..',
+        'unexpected end of the text; expected "{", "[", "true", "false", "null", a number, ..',
         '"{" (LBRACE), "[" (',
     ),
     (
@@ -249,7 +249,7 @@ MESSAGES: List[Tuple[str, str, str, Optional[str]]] = [
     ("toml", "a\n", 'unexpected the end of the line; expected "." or "="', None),
     ("sql", "DELETE x", 'unexpected "x"; expected "FROM"', None),
     ("g0", "1 2", 'unexpected "2"; expected "+" or the end of the text', None),
-    ("g0", "(", 'unexpected the end of the text; expected NUM or "("', None),
+    ("g0", "(", 'unexpected end of the text; expected NUM or "("', None),
     (
         "lr",
         "lrgrammar 2\nS=A\n",

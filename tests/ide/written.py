@@ -231,7 +231,7 @@ def faulty_first(cases: Cases, folder: str) -> None:
         written_grammar(folder, SUMS)
         look(client)
         (found,) = client.published(URI)
-        awaited = "unexpected the end of the text; expected NUM"
+        awaited = "unexpected end of the text; expected NUM"
         cases.check("a grammar that is mended", awaited, found["message"])
         cases.check("the status then", 0, client.leave())
 

@@ -144,7 +144,7 @@ def writes_grammar(cases: Cases, page: Browser) -> None:
     cases.check(
         "the new grammar counts",
         True,
-        page.shows("text-fault", "1:8: unexpected the end of the text; expected NUM"),
+        page.shows("text-fault", "1:8: unexpected end of the text; expected NUM"),
     )
 
 

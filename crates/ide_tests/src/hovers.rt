@@ -77,7 +77,7 @@ const HOVERS: [Row; 17] = [
     (
         "let x",
         5,
-        "unexpected the end of the text\n\nExpected here:\n- \";\" (SEMICOLON)\n- \"=\" (ASSIGN)",
+        "unexpected end of the text\n\nExpected here:\n- \";\" (SEMICOLON)\n- \"=\" (ASSIGN)",
         (5, 5),
     ),
     ("let x", 4, "\"x\" a name, variable\n\nNAME", (4, 5)),

@@ -26,7 +26,7 @@ NOTE = "// \"x\""
 
 /// Found texts, of rule `SEMI` (6) where nothing else is said, and their messages.
 const FOUND: [(Found<'static>, &str); 15] = [
-    (Found::End, "the end of the text"),
+    (Found::End, "end of the text"),
     (Found::Invalid("?"), "\"?\", which begins no token"),
     (Found::Invalid(""), "\"\", which begins no token"),
     (Found::Invalid("\u{1}a"), "U+0001, which begins no token"),
@@ -146,7 +146,7 @@ fn check_expected(rt: &impl Abort, alloc: Global, grammar: &Grammar, settings: &
         let text = message(alloc, grammar, settings, Found::End, rules, at_end).expect(
             rt, "memory",
         );
-        let wanted = format!(in alloc; "unexpected the end of the text; expected {said}");
+        let wanted = format!(in alloc; "unexpected end of the text; expected {said}");
         assert!(rt; text == wanted.expect(rt, "memory"), "{text}");
         let beside = related(alloc, grammar, settings, rules, at_end).expect(rt, "memory");
         match beside {

@@ -16,7 +16,7 @@ pub enum Found<'a> {
     Token { rule: usize, text: &'a str },
 }
 
-/// The end of a text in messages.
+/// The end of a text among what was expected.
 pub const END: &str = "the end of the text";
 
 /// So many characters of a text are shown.
@@ -32,7 +32,7 @@ pub fn found_text(
     found: Found<'_>,
 ) -> Result<String, AllocError> {
     match found {
-        Found::End => String::from_str(alloc, END),
+        Found::End => String::from_str(alloc, "end of the text"),
         Found::Invalid(text) => invalid_text(alloc, text),
         Found::Token { text, .. } if can_be_shown(text) || has_break_inside(text) => {
             shown(alloc, text)

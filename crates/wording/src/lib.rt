@@ -17,7 +17,7 @@
 //! ```
 //! let message = message(alloc, grammar, settings, Found::End, &[0, 2], false).ok()?;
 //! println!(rt; "{message}").ok()
-//! // unexpected the end of the text; expected NUM or "("
+//! // unexpected end of the text; expected NUM or "("
 //! ```
 #![tactic(auto)]
 
