@@ -19,11 +19,10 @@ from tests.statements.specs import imports_of
 # The crates whose functions promise what a call of another crate does.
 PROMISE = ("surface_texts", "surface_grammars", "surface", "surface_editors")
 # The crates that call without promising anything: tests, examples and a program that times calls.
-IDLE = re.compile(r"\w+_tests|uses|text_bench|worked|mending_bench")
+IDLE = re.compile(r"\w+_tests|uses|uses_editors|text_bench|worked|mending_bench")
 # The crates whose calls and laws aren't all used outside them, with the reason.
 APART = {
     "ide": "its program calls `run`, of which the others are parts",
-    "mending": "no crate of the program calls it yet",
 }
 
 CLAUSE = re.compile(r"^\s*((?:requires|ensures)\s+(?:\w+ )?)\{", re.M)

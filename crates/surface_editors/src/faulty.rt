@@ -16,36 +16,41 @@ use mending::{Change, Listed, Mending, Rank, Repair};
 use parser::Parse;
 use std::alloc::{AllocError, Global};
 use tables::Tables;
-use trees::{NodeId, Store};
+use trees::{Kinds, NodeId, Store};
 
 /// `Mending::whole`.
-pub fn whole(
+pub fn whole<K: Kinds>(
     alloc: Global,
     tables: &Tables,
     ranks: &[Rank],
-    kinds: &[Kind],
+    kinds: &K,
 ) -> Result<Mending, AllocError>
-    ensures mended { IfOk result (IsMendingOf tables.now kinds.now) }
-    ensures sentence { IsSentence tables.now.grammar kinds.now
+    ensures mended { IfOk result (IsMendingOf tables.now (K.kinds kinds.now)) }
+    ensures sentence { IsSentence tables.now.grammar (K.kinds kinds.now)
         → IfOk result (λ m. m.repairs.items ≡ []) }
 {
-    Mending::whole(alloc, tables, ranks, &Listed { kinds })
+    Mending::whole(alloc, tables, ranks, kinds)
 }
 
 /// `Mending::follow`.
-pub fn follow(
+pub fn follow<K: Kinds>(
+    before: Mending,
     alloc: Global,
     tables: &Tables,
     ranks: &[Rank],
-    kinds: &[Kind],
-    before: Mending,
+    kinds: &K,
 ) -> Result<Mending, AllocError>
     requires { (old : List TokenKind) × IsMendingOf tables.now old before }
-    ensures mended { IfOk result (IsMendingOf tables.now kinds.now) }
-    ensures sentence { IsSentence tables.now.grammar kinds.now
+    ensures mended { IfOk result (IsMendingOf tables.now (K.kinds kinds.now)) }
+    ensures sentence { IsSentence tables.now.grammar (K.kinds kinds.now)
         → IfOk result (λ m. m.repairs.items ≡ []) }
 {
-    before.follow(alloc, tables, ranks, &Listed { kinds })
+    before.follow(alloc, tables, ranks, kinds)
+}
+
+/// `Listed`.
+pub fn listed(kinds: &[Kind]) -> Listed<'_> {
+    Listed { kinds }
 }
 
 /// `Mending::repairs`.
