@@ -2,7 +2,8 @@
 
 The comment at the head of a crate's root file is its page: what the crate is for, the first call,
 its words, its limits, and, of a library, an example. The example is the body of the crate's
-function in `crates/uses`, which is proved and run, and the comments in it say what is printed.
+function in `crates/uses`, or, of a crate of the editor's server, in `crates/uses_editors`. Both
+are proved and run, and the comments in them say what is printed.
 """
 
 import os
@@ -12,33 +13,8 @@ from typing import Dict, List
 from tests.common.cases import Cases
 from tests.statements.specs import lines_of
 
-# The crates whose examples no crate runs yet.
-NOT_RUN = (
-    "colours",
-    "completion",
-    "editor_replies",
-    "faults",
-    "flat_trees",
-    "forests",
-    "grammar_reports",
-    "hover",
-    "ide",
-    "mending",
-    "outline",
-    "own_replies",
-    "questions",
-    "remedies",
-    "reopening",
-    "settings",
-    "settings_files",
-    "shown",
-    "states",
-    "token_rows",
-    "wording",
-)
-
 # The crates that run examples.
-USERS = ("uses",)
+USERS = ("uses", "uses_editors")
 
 # The fewest and the most lines of a page.
 LINES_OF_PAGES = (10, 30)
@@ -126,7 +102,7 @@ def check(cases: Cases, top: str) -> None:
         cases.check(
             f"the page of {crate}: its example is the one that is run",
             plain(examples.get(crate, [])),
-            "" if crate in NOT_RUN else plain(example),
+            plain(example),
         )
     cases.check("each example that is run is of a crate", set(), set(examples) - set(products(top)))
     for user, found in run.items():

@@ -18,7 +18,8 @@
 //!     "textDocument":{"uri":"file:///a"}},"jsonrpc":"2.0"}"#;
 //! let content = Vec::from_slice(alloc, content).ok()?;
 //! let Content { own, .. } = read_content(alloc, Phase::Ready(Unit::Utf16), content).ok()?;
-//! let Asked::About(uri, Question::Outline) = own?.asked else {
+//! let Own { asked, .. } = own?;
+//! let Asked::About(uri, Question::Outline) = asked else {
 //!     return None;
 //! };
 //! println!(rt; "the outline of {uri}").ok()
