@@ -24,11 +24,13 @@ from tests.statements import (
 from tests.statements.rows import UNDER_RUN, Guards
 from tests.statements.specs import Definitions, files_of, imports_of, lines_of, words_of_run
 
-# The most columns of a line of a contract, and of a line of a definition.
+# The most columns of a line of a contract, of a definition, of a comment, of a proof, and of an
+# import.
 WIDTH_OF_CONTRACTS = 100
 WIDTH_OF_DEFINITIONS = 140
 WIDTH_OF_COMMENTS = 99
 WIDTH_OF_PROOFS = 199
+WIDTH_OF_IMPORTS = 300
 # The laws under `run`, which no row gives: a row takes each as a premise, so that one that says
 # less no longer fits. They are proved in sessions/src/laws.rt.
 LAWS = (
@@ -53,10 +55,14 @@ GIVEN_ONCE = {
 CLAUSE = re.compile(r"^\s*(?:ensures|requires|invariant|ghost view)\b")
 GHOST_USE = re.compile(r"^[ \t]*ghost use [^;]*?\{([^}]*)\};", re.M)
 ANY_USE = re.compile(r"^[ \t]*(?:pub )?(?:ghost )?use [^;]*;|//[^\n]*", re.M)
-PASSED_ON = re.compile(r"^(?:unfoldable )?pub use \S+\.\{([^}]*)\}$", re.M)
-ANY_IMPORT = re.compile(r"^\s*(?:unfoldable )?(?:pub )?use ")
+# What an import passes on: the module that it is from, and the names.
+PASSED_ON = re.compile(r"^(?:unfoldable )?pub use (\S+)\.\{([^}]*)\}$", re.M)
+ANY_IMPORT = re.compile(r"^\s*(?:unfoldable )?(?:pub )?(?:ghost )?use ")
 QUOTED = re.compile(r'"(?:[^"\\]|\\.)*"')
-TAKEN = re.compile(r"^use Rattle\.\w+\.proofs\.Common\.\{([^}]*)\}$", re.M)
+# What an import takes from the modules of a crate's proofs that pass on what they cite of other
+# places: the crate, the module and the names.
+PASSING = ("Std", "Common")
+TAKEN = re.compile(rf"^use Rattle\.(\w+)\.proofs\.({'|'.join(PASSING)})\.\{{([^}}]*)\}}$", re.M)
 
 
 def used_elsewhere(top: str, definitions: "Definitions") -> Set[Tuple[str, str, str]]:
@@ -124,6 +130,16 @@ def wide_proofs(top: str) -> List[Any]:
     ]
 
 
+def wide_imports(top: str) -> List[Any]:
+    """The imports of all files of the crates that are too wide."""
+    return [
+        f"{os.path.relpath(path, top)}:{number}"
+        for path in files_of(top, "crates", ".rt") + files_of(top, "crates", ".antt")
+        for number, line in enumerate(lines_of(path), 1)
+        if ANY_IMPORT.match(line) and len(line) > WIDTH_OF_IMPORTS
+    ]
+
+
 def is_named(name: str, text: str) -> bool:
     """Whether a text has all parts of a name: an operator's are what stands between the places of
     its arguments."""
@@ -149,25 +165,50 @@ def idle_imports(top: str) -> List[Any]:
     return idle
 
 
-def names_in(pattern: Any, path: str) -> Set[str]:
-    """The names in the braces of what a pattern finds in a file: of a renamed one the new name."""
-    inner = ",".join(pattern.findall("\n".join(lines_of(path))))
-    return {name.split(" as ")[-1].strip() for name in inner.split(",")} - {""}
+def names_of(inner: str, which: int) -> Set[str]:
+    """The names in the braces of an import: of a renamed one the old name, 0, or the new, -1."""
+    return {name.split(" as ")[which].strip() for name in inner.split(",")} - {""}
 
 
-def idle_in_common(top: str) -> List[Any]:
-    """The names that the module `Common` of a crate's proofs passes on, and that no other of its
-    proofs takes from there."""
-    passed_on: Dict[str, Set[str]] = {}
-    taken: Dict[str, Set[str]] = {}
+def passed_on(top: str) -> List[Tuple[str, str, str, Set[str]]]:
+    """What the modules `Std` and `Common` of the crates' proofs pass on: for each import the crate,
+    the module, where the names are from, and the names."""
+    folder = os.path.join(top, "crates")
+    found = []
+    for crate in sorted(os.listdir(folder)):
+        for module in PASSING:
+            path = os.path.join(folder, crate, "proofs", f"{module}.antt")
+            text = "\n".join(lines_of(path)) if os.path.exists(path) else ""
+            found += [
+                (crate, module, source, names_of(inner, -1))
+                for source, inner in PASSED_ON.findall(text)
+            ]
+    return found
+
+
+def idle_words(top: str) -> List[Any]:
+    """The names that the modules `Std` and `Common` of the crates' proofs pass on, and that no
+    proof takes from there."""
+    taken: Dict[Tuple[str, str], Set[str]] = {}
     for path in files_of(top, "proofs", ".antt"):
-        crate, _, place = os.path.relpath(path, os.path.join(top, "crates")).partition(os.sep)
-        if place == os.path.join("proofs", "Common.antt"):
-            passed_on[crate] = names_in(PASSED_ON, path)
-        taken[crate] = taken.get(crate, set()) | names_in(TAKEN, path)
-    return sorted(
-        f"{crate}: {name}" for crate, names in passed_on.items() for name in names - taken[crate]
-    )
+        for crate, module, inner in TAKEN.findall("\n".join(lines_of(path))):
+            taken.setdefault((crate, module), set()).update(names_of(inner, 0))
+    return [
+        f"{crate}/proofs/{module}: {name}"
+        for crate, module, _, names in passed_on(top)
+        for name in sorted(names - taken.get((crate, module), set()))
+    ]
+
+
+def misplaced_words(top: str) -> List[Any]:
+    """The modules of the repository whose words a `Std` passes on, and those of std and of the kit
+    whose words a `Common` does."""
+    ours = tuple(f"Rattle.{crate}." for crate in os.listdir(os.path.join(top, "crates")))
+    return [
+        f"{crate}/proofs/{module}: {source}"
+        for crate, module, source, _ in passed_on(top)
+        if source.startswith(ours) != (module == "Common")
+    ]
 
 
 def unguarded(guards: "Guards", keys: List[Tuple[str, str, str]]) -> List[Any]:
@@ -261,9 +302,17 @@ def check(cases: Cases, top: str) -> None:
     cases.check("no line of a definition is too wide", [], wide_definitions(top))
     cases.check("no line of a comment is too wide", [], wide_comments(top))
     cases.check("no line of a proof is too wide", [], wide_proofs(top))
+    cases.check("no import is too wide", [], wide_imports(top))
     cases.check("each name that a contract's file brings in is named there", [], idle_imports(top))
     cases.check(
-        "each name that a `proofs/Common` passes on is taken from there", [], idle_in_common(top)
+        "each name that a `proofs/Std` or `proofs/Common` passes on is taken from there",
+        [],
+        idle_words(top),
+    )
+    cases.check(
+        "each `proofs/Std` passes on words of std and of the kit, and each `proofs/Common` others",
+        [],
+        misplaced_words(top),
     )
     edits_told.check(cases, top)
     said_twice.check(cases, top)

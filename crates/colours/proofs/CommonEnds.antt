@@ -1,5 +1,5 @@
 -- What two lists begin and end with, and what the edit between them makes of the first.
-use Rattle.colours.proofs.Common.{◌++◌, ◌+◌, ◌-◌, ◌<◌, ◌≤◌, ◌≡◌, ◌≢◌, ◌∙◌, ◌∷◌, ◌⊎◌, List, ap, append_assoc, arith, cases_lt, drop, drop-cons, drop-drop, get_or, get_or-drop, get_or-take, inl, inr, length, length-drop, length-take, suc, sym, take, take-append-drop, take-take, ℕ}
+use Rattle.colours.proofs.Std.{◌++◌, ◌+◌, ◌-◌, ◌<◌, ◌≤◌, ◌≡◌, ◌≢◌, ◌∙◌, ◌∷◌, ◌⊎◌, List, ap, append_assoc, arith, cases_lt, drop, drop-cons, drop-drop, get_or, get_or-drop, get_or-take, inl, inr, length, length-drop, length-take, suc, sym, take, take-append-drop, take-take, ℕ}
 
 drop_last : (a : List ℕ) (k : ℕ) → k < length a → drop (length a - (k + 1)) a ≡ get_or a (length a - 1 - k) 0 ∷ drop (length a - k) a
 drop_last a k l =

@@ -1,5 +1,6 @@
 -- Numbers of parts, one part after another, and the parts of what stands between two positions, one line after another.
-use Rattle.colours.proofs.Common.{◌++◌, ◌+◌, ◌-◌, ◌≤◌, ◌≡◌, ◌∙◌, ◌<◌, ◌==◌, List, ap, append_assoc, arith, cond, eq-eqb, filter, inl, inr, map, nat_lt, refl, subst, sym, ℕ, range_with_len, filter_of_map_range_with_len_more, Position, Encoding, AreEncoded, IsUpTo, part_if, Part, line_end, part_on, parts_between}
+use Rattle.colours.proofs.Std.{◌++◌, ◌+◌, ◌-◌, ◌≤◌, ◌≡◌, ◌∙◌, ◌<◌, ◌==◌, List, ap, append_assoc, arith, cond, eq-eqb, filter, inl, inr, map, nat_lt, refl, subst, sym, ℕ, range_with_len, filter_of_map_range_with_len_more}
+use Rattle.colours.proofs.Common.{Position, Encoding, AreEncoded, IsUpTo, part_if, Part, line_end, part_on, parts_between}
 use Rattle.colours.proofs.Windows.{differ}
 
 -- the parts on the lines above line `l`

@@ -1,4 +1,5 @@
 pub mod Common
+pub mod Std
 pub mod Encodings
 pub mod PositionsAscend
 pub mod CommonEnds

@@ -1,5 +1,8 @@
 -- How the position of an offset follows from that of an earlier one.
-use Rattle.colours.proofs.Common.{◌*◌, ◌+◌, ◌-◌, ◌<◌, ◌≤◌, ◌≡◌, ◌≢◌, ◌∙◌, ◌∷◌, ◌⊎◌, ◌==◌, ◌||◌, Bool, List, [], All, ap, arith, cond, drop, drop-drop, false, inl, inr, get_or-drop, length, length-drop, length-take, nat_le, nat_lt, not, prefix_len, prefix_len_passes, prefix_len_stops, refl, slice_index, slice_index_or, subst, suc, sum_by-append, sum_by-cons, sym, take, take-add, take-take, take_all, true, zero, ℕ, cases_lt, count_by-le-length, drop_more, ended, ended-cons, false≢true, in_line_end, le-leb, len_utf8_ascii, len_utf8_bounds, length-line_from, length-prefix_len, line_of-place, line_start-le, lt-leb, lt-ltb, ne_eqb, none_ended, unit, break_ends, ends_break, line_from, line_of, line_start, offset, position, units, Position, Encoding, Utf8, Utf16, Utf32, line_end, greatest-is}
+use Rattle.colours.proofs.Std.{◌*◌, ◌+◌, ◌-◌, ◌<◌, ◌≤◌, ◌≡◌, ◌≢◌, ◌∙◌, ◌∷◌, ◌⊎◌, ◌==◌, ◌||◌, Bool, List, [], All, ap, cond, drop, false, inl, inr, length, nat_le, nat_lt, not, prefix_len, refl, slice_index, slice_index_or, subst, suc, sym, take, true, zero, ℕ}
+use Rattle.colours.proofs.Std.{arith, drop-drop, get_or-drop, length-drop, length-take, take-take, take_all, drop_more, prefix_len_passes, prefix_len_stops, sum_by-append, sum_by-cons, count_by-le-length, take-add, cases_lt, false≢true, le-leb, lt-leb, lt-ltb, ne_eqb}
+use Rattle.colours.proofs.Std.{len_utf8_ascii, len_utf8_bounds, length-prefix_len}
+use Rattle.colours.proofs.Common.{ended, ended-cons, in_line_end, length-line_from, line_of-place, line_start-le, none_ended, unit, break_ends, ends_break, line_from, line_of, line_start, offset, position, units, Position, Encoding, Utf8, Utf16, Utf32, line_end, greatest-is}
 use Rattle.colours.specs.Steps.{IsPlain}
 
 -- whether a line goes on over the character

@@ -1,5 +1,6 @@
 -- Tokens that end at or before the start of a line have no part on it or below it, and those that start on a line have none above it.
-use Rattle.colours.proofs.Common.{◌++◌, ◌+◌, ◌-◌, ◌<◌, ◌≤◌, ◌≡◌, ◌∙◌, ◌∷◌, ◌⊎◌, ◌==◌, Bool, List, None, Option, Some, [], ap, append_assoc, arith, cond, filter, inl, inr, length, nat_lt, refl, subst, sym, take, ℕ, cases_lt, eq-eqb, filter-append, count_by-le-length, break_ends, line_of, line_from, line_start, offset, position, units, position-of_offset, chars, chars-cons, PlainToken, Position, Encoding, IsUpTo, start_of, Part, colour_of, coloured_from, line_end, part_on, parts_in, within}
+use Rattle.colours.proofs.Std.{◌++◌, ◌+◌, ◌-◌, ◌<◌, ◌≤◌, ◌≡◌, ◌∙◌, ◌∷◌, ◌⊎◌, ◌==◌, Bool, List, None, Option, Some, [], ap, append_assoc, arith, cond, filter, inl, inr, length, nat_lt, refl, subst, sym, take, ℕ, cases_lt, eq-eqb, filter-append, count_by-le-length}
+use Rattle.colours.proofs.Common.{break_ends, line_of, line_from, line_start, offset, position, units, position-of_offset, chars, chars-cons, PlainToken, Position, Encoding, IsUpTo, start_of, Part, colour_of, coloured_from, line_end, part_on, parts_in, within}
 use Rattle.colours.proofs.PositionsAscend.{position-mono}
 use Rattle.colours.proofs.Windows.{is_some, is_on, dropped, all_dropped, off}
 

@@ -1,5 +1,6 @@
 -- The position of a later offset isn't before that of an earlier one.
-use Rattle.colours.proofs.Common.{◌-◌, ◌≤◌, ◌≡◌, ◌∷◌, Bool, List, [], arith, false, nat_le, refl, subst, take, true, ℕ, ended, ended-cons, leb-true, le-leb, take-take, sum_by-take-le, break_ends, line_from, line_of, line_start, position, units, Encoding, IsUpTo}
+use Rattle.colours.proofs.Std.{◌-◌, ◌≤◌, ◌≡◌, ◌∷◌, Bool, List, [], arith, false, nat_le, refl, subst, take, true, ℕ, leb-true, le-leb, take-take, sum_by-take-le}
+use Rattle.colours.proofs.Common.{ended, ended-cons, break_ends, line_from, line_of, line_start, position, units, Encoding, IsUpTo}
 use Rattle.definitions.specs.Text.{unit}
 
 ended-mono : (o p : ℕ) (ends : List ℕ) → o ≤ p → ended o ends ≤ ended p ends

@@ -1,5 +1,7 @@
 -- What a walk knows after it has gone on.
-use Rattle.colours.proofs.Common.{◌+◌, ◌-◌, ◌<◌, ◌≤◌, ◌≡◌, ◌∙◌, ◌∷◌, ◌++◌, ◌⊎◌, ◌==◌, ◌||◌, ◌&&◌, not, Bool, true, false, List, Option, Some, [], All, ap, arith, drop, drop-drop, get_or-append_seam, get_or-drop, get_or-take, get_or_append_left, get_or_default, inl, inr, length, length-append, length-drop, length-take, refl, slice_index, subst, sym, take, ℕ, cases_lt, begins_with, ends_break, false≢true, position, Position, Encoding, line_end}
+use Rattle.colours.proofs.Std.{◌+◌, ◌-◌, ◌<◌, ◌≤◌, ◌≡◌, ◌∙◌, ◌∷◌, ◌++◌, ◌⊎◌, ◌==◌, ◌||◌, ◌&&◌, not, Bool, true, false, List, Option, Some, [], All, ap, drop, inl, inr, length, refl, slice_index, subst, sym, take, ℕ}
+use Rattle.colours.proofs.Std.{arith, drop-drop, get_or-append_seam, get_or-drop, get_or-take, get_or_append_left, get_or_default, length-append, length-drop, length-take, cases_lt, false≢true}
+use Rattle.colours.proofs.Common.{begins_with, ends_break, position, Position, Encoding, line_end}
 use Rattle.colours.proofs.NextPosition.{goes_on, line_end-is, on_line, position-along, position-break, position-character, position-line, units-plain}
 use Rattle.colours.specs.Steps.{AreEnds, IsPlain, IsStep, Step, behind, line_at}
 

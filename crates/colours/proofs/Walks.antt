@@ -1,6 +1,7 @@
 -- The parts of a text's tokens, one token after another.
 use Rattle.colours.specs.Steps.{Step}
-use Rattle.colours.proofs.Common.{◌++◌, ◌+◌, ◌*◌, ◌≡◌, ◌∙◌, ◌∷◌, List, Option, [], ap, append_assoc, append-nil, arith, length, map, min, subst, sym, ℕ, position-min, position, Position, Encoding, kind_in, plain, Token, AreEncoded, IsUpTo, Part, colour_of, coloured_from, decoded, decoded_from, parts_in, origin}
+use Rattle.colours.proofs.Std.{◌++◌, ◌+◌, ◌*◌, ◌≡◌, ◌∙◌, ◌∷◌, List, Option, [], ap, append_assoc, append-nil, arith, length, map, min, subst, sym, ℕ}
+use Rattle.colours.proofs.Common.{position-min, position, Position, Encoding, kind_in, plain, Token, AreEncoded, IsUpTo, Part, colour_of, coloured_from, decoded, decoded_from, parts_in, origin}
 use Rattle.colours.proofs.PositionsAscend.{position-mono}
 
 pub up_to-trans : (p q r : Position) → IsUpTo p q → IsUpTo q r → IsUpTo p r

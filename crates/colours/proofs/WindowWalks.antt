@@ -1,5 +1,6 @@
 -- The parts on some lines of a text's tokens, one token after another.
-use Rattle.colours.proofs.Common.{◌++◌, ◌+◌, ◌*◌, ◌≤◌, ◌≡◌, ◌∙◌, ◌∷◌, List, Option, [], ap, append_assoc, append-nil, arith, drop, filter-append, length, map, map-append, min, subst, sym, take, take-append-drop, ℕ, offset, position, chars, chars-plain, characters, PlainToken, Position, Encoding, kind_in, plain, Token, AreEncoded, IsUpTo, start_of, Part, colour_of, coloured_from, decoded, decoded_from, parts_in, origin, within}
+use Rattle.colours.proofs.Std.{◌++◌, ◌+◌, ◌*◌, ◌≤◌, ◌≡◌, ◌∙◌, ◌∷◌, List, Option, [], ap, append_assoc, append-nil, arith, drop, filter-append, length, map, map-append, min, subst, sym, take, take-append-drop, ℕ}
+use Rattle.colours.proofs.Common.{offset, position, chars, chars-plain, characters, PlainToken, Position, Encoding, kind_in, plain, Token, AreEncoded, IsUpTo, start_of, Part, colour_of, coloured_from, decoded, decoded_from, parts_in, origin, within}
 use Rattle.colours.proofs.OutsideLines.{all_behind, all_in_front, coloured_both}
 use Rattle.colours.proofs.PositionsAscend.{position-mono}
 use Rattle.colours.proofs.Walks.{IsAt, at-is, at-next}

@@ -1,5 +1,7 @@
 -- The parts on some lines of what stands between two positions are those between the nearest positions on these lines.
-use Rattle.colours.proofs.Common.{◌++◌, ◌+◌, ◌-◌, ◌<◌, ◌≤◌, ◌≡◌, ◌∙◌, ◌∷◌, ◌⊎◌, ◌==◌, ◌&&◌, Bool, List, None, Option, Some, [], ap, arith, cond, false, filter, inl, inr, map, nat_le, nat_lt, refl, subst, suc, sym, true, zero, ℕ, le-leb, cases_lt, lt-ltb, le-ltb, lt-leb, eq-eqb, eqb-true, append-nil, ltb-true, ltb-false, filter-append, map-append, range_with_len, Position, Encoding, IsUpTo, not_above, not_below, Part, line_end, part_on, parts_between, parts_in, within}
+use Rattle.colours.proofs.Std.{◌++◌, ◌+◌, ◌-◌, ◌<◌, ◌≤◌, ◌≡◌, ◌∙◌, ◌∷◌, ◌⊎◌, ◌==◌, ◌&&◌, Bool, List, None, Option, Some, [], ap, cond, false, filter, inl, inr, map, nat_le, nat_lt, refl, subst, suc, sym, true, zero, ℕ, range_with_len}
+use Rattle.colours.proofs.Std.{arith, le-leb, cases_lt, lt-ltb, le-ltb, lt-leb, eq-eqb, eqb-true, append-nil, ltb-true, ltb-false, filter-append, map-append}
+use Rattle.colours.proofs.Common.{Position, Encoding, IsUpTo, not_above, not_below, Part, line_end, part_on, parts_between, parts_in, within}
 
 abbrev pub is_some : Part → Bool
 is_some part = nat_lt 0 part.length

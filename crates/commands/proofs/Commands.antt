@@ -1,5 +1,7 @@
 -- How clap reads the words of a command: they name as many paths as it takes, or are refused.
-use Rattle.commands.proofs.Common.{◌==◌, ◌≡◌, ◌∙◌, ◌⊎◌, inl, inr, ℕ, Bool, true, false, refl, sym, ap, subst, List, [], ◌∷◌, Option, Some, None, option_map, codes, cases_Bool, All, fold, IsUtf8, bytes_eq, option_map_id, All-head, All-tail, Kinds, or_else, reading_of, AnyText, CommandLine, Held, Row, Text, idle, Walk, finished, settled, walked, Shape, built_leaf, inherited, check_fault, defaults_fault, other_fault, settle_fault, turn_fault, walk_fault, clap_on_literals, alone, grammar_in, one, text_in, two, is_flag, paths}
+use Rattle.commands.proofs.Std.{◌==◌, ◌≡◌, ◌∙◌, ◌⊎◌, inl, inr, ℕ, Bool, true, false, refl, sym, ap, subst, List, [], ◌∷◌, Option, Some, None, option_map, codes, cases_Bool, All, fold, IsUtf8, bytes_eq, option_map_id, All-head, All-tail}
+use Rattle.commands.proofs.Std.{Kinds, or_else, reading_of, AnyText, CommandLine, Held, Row, Text, idle, Walk, finished, settled, walked, Shape, built_leaf, inherited, check_fault, defaults_fault, other_fault, settle_fault, turn_fault, walk_fault, clap_on_literals}
+use Rattle.commands.proofs.Common.{alone, grammar_in, one, text_in, two, is_flag, paths}
 use Rattle.commands.proofs.Flags.{no_first, HasHelpAlone, IsFlagWord, flag_fails, IsPath, kind_of}
 
 -- the commands as they are built

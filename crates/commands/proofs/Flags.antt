@@ -1,5 +1,7 @@
 -- What clap makes of a word: each is `--`, a flag or a path, and every flag is refused.
-use Rattle.commands.proofs.Common.{◌==◌, ◌≡◌, ◌∙◌, ◌⊎◌, inl, inr, ℕ, Bool, true, false, refl, sym, ap, subst, List, [], ◌∷◌, drop, Option, Some, None, codes, cases_Bool, IsUtf8, bytes_eq, chars, encodes, chars_past_char, encodes-chars, eqb-true, bytes_eq-Decides, slice_get, long_of, name_and_value, short_of, Kinds, or_else, Held, Row, Rule, Text, arg_by_long, arg_by_short, reacted, filled, help_rule, flag_word_fault, flags_fault, long_fault, react_fault, short_fault, settle_fault, is_flag, encode_utf8}
+use Rattle.commands.proofs.Std.{◌==◌, ◌≡◌, ◌∙◌, ◌⊎◌, inl, inr, ℕ, Bool, true, false, refl, sym, ap, subst, List, [], ◌∷◌, drop, Option, Some, None, codes, cases_Bool, IsUtf8, bytes_eq, chars, encodes, chars_past_char, encodes-chars, eqb-true, bytes_eq-Decides, slice_get, encode_utf8}
+use Rattle.commands.proofs.Std.{long_of, name_and_value, short_of, Kinds, or_else, Held, Row, Rule, Text, arg_by_long, arg_by_short, reacted, filled, help_rule, flag_word_fault, flags_fault, long_fault, react_fault, short_fault, settle_fault}
+use Rattle.commands.proofs.Common.{is_flag}
 
 pub no_first : (a b : Kinds) → or_else a b ≡ [] → a ≡ []
 no_first [] b e = refl

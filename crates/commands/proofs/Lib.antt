@@ -1,4 +1,5 @@
 pub mod Common
+pub mod Std
 mod Flags
 mod Commands
 mod Lines

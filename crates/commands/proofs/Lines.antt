@@ -1,5 +1,8 @@
 -- How clap reads the program's words: they ask for a task, or are refused.
-use Rattle.commands.proofs.Common.{◌==◌, ◌≡◌, ◌∙◌, ◌⊎◌, inl, inr, Bool, false, refl, sym, ap, subst, List, [], ◌∷◌, drop, Some, None, is_some, codes, string_bytes, true≢false, cases_Bool, All, fold, IsUtf8, bytes_eq, All-head, All-tail, bytes_eq-Decides, Kinds, or_else, Names, Row, Text, subcommand_met, idle, Walk, finished, nothing_held, settled, walked, Shape, entered, names_of, built, check_fault, defaults_fault, entered_fault, other_fault, settle_fault, turn_fault, walk_fault, clap_on_literals, walk_stopped, stopped_fault, grammar_in, lrls, text_in, Asks, paths, Words, Check, Parse, Serve}
+use Rattle.commands.proofs.Std.{◌==◌, ◌≡◌, ◌∙◌, ◌⊎◌, inl, inr, Bool, false, refl, sym, ap, subst, List, [], ◌∷◌, drop, Some, None, is_some, codes, string_bytes, true≢false, cases_Bool, All, fold, IsUtf8, bytes_eq, All-head, All-tail, bytes_eq-Decides}
+use Rattle.commands.proofs.Std.{Kinds, or_else, Names, Row, Text, subcommand_met, idle, Walk, finished, nothing_held, settled, walked, Shape, entered, names_of, built, check_fault, defaults_fault, entered_fault, other_fault, settle_fault, turn_fault, walk_fault, clap_on_literals}
+use Rattle.commands.proofs.Std.{walk_stopped, stopped_fault}
+use Rattle.commands.proofs.Common.{grammar_in, lrls, text_in, Asks, paths, Words, Check, Parse, Serve}
 use Rattle.clap.specs.Simple.{subcommand_of}
 use Rattle.clap.specs.Faults.{fault_of}
 use Rattle.commands.proofs.Flags.{no_first, help, HasHelpAlone, IsFlagWord, flag_fails, IsPath, kind_of}

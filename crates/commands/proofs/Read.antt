@@ -1,5 +1,6 @@
 -- What clap answers, in the words of the command line.
-use Rattle.commands.proofs.Common.{◌≡◌, ◌∙◌, ◌⊎◌, true, List, [], ◌∷◌, Option, Some, None, sym, ap, subst, refl, codes, All, IsUtf8, App, HasMatchesOf, fault_of, is_simple, is_simple_and_free, subcommand_of, subcommand_rows_of, ArgMatches, AsksFor, grammar_in, lrls, text_in, Asks, IsRead, paths, Words}
+use Rattle.commands.proofs.Std.{◌≡◌, ◌∙◌, ◌⊎◌, true, List, [], ◌∷◌, Option, Some, None, sym, ap, subst, refl, codes, All, IsUtf8, App, HasMatchesOf, fault_of, is_simple, is_simple_and_free, subcommand_of, subcommand_rows_of, ArgMatches}
+use Rattle.commands.proofs.Common.{AsksFor, grammar_in, lrls, text_in, Asks, IsRead, paths, Words}
 use Rattle.clap.specs.Words.{Row, Text}
 use Rattle.commands.proofs.Lines.{Outcome, one_path, outcome, refused, two_paths}
 

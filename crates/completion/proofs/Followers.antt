@@ -1,7 +1,8 @@
 -- What may follow, from what stands before an offset.
 use Rattle.mending.specs.declared.repair.Repair.{Repair}
 use Rattle.completion.specs.Mended.{GoOnAs}
-use Rattle.completion.proofs.Common.{◌++◌, ◌≡◌, ◌∙◌, ℕ, All, Bool, List, [], Option, ap, false, filter-append, map, map-map, not, option_to_list, refl, subst, sym, take, All-take, AreBefore, AreExpected, Expected, FileGrammar, Goes_into, Kind, MayFollow, Token, in_file_order, is_skipped, kind_in, kinds_plain, plain, significant_kinds, unskipped}
+use Rattle.completion.proofs.Std.{◌++◌, ◌≡◌, ◌∙◌, ℕ, All, Bool, List, [], Option, ap, false, filter-append, map, map-map, not, option_to_list, refl, subst, sym, take, All-take}
+use Rattle.completion.proofs.Common.{AreBefore, AreExpected, Expected, FileGrammar, Goes_into, Kind, MayFollow, Token, in_file_order, is_skipped, kind_in, kinds_plain, plain, significant_kinds, unskipped}
 
 unskipped-append : (skips : List Bool) (xs ys : List Kind) → unskipped skips (xs ++ ys) ≡ unskipped skips xs ++ unskipped skips ys
 unskipped-append skips xs ys = filter-append (λ k. not (is_skipped skips k)) xs ys

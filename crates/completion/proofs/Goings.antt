@@ -1,5 +1,6 @@
 -- What goes on behind kinds: they themselves, or what repairs make of them.
-use Rattle.completion.proofs.Common.{◌≡◌, ◌∷◌, List, [], Option, append-nil, arith, false, refl, subst, sym, ℕ, AreExpected, Grammar, IsSentence, IsViable, Kind, TokenRule, viable_prefix}
+use Rattle.completion.proofs.Std.{◌≡◌, ◌∷◌, List, [], Option, append-nil, arith, false, refl, subst, sym, ℕ}
+use Rattle.completion.proofs.Common.{AreExpected, Grammar, IsSentence, IsViable, Kind, TokenRule, viable_prefix}
 use Rattle.mending.specs.declared.repair.Repair.{Repair}
 use Rattle.completion.specs.Mended.{As_mended, As_they_are, EndsInvalid, GoOnAs, Not_at_all, mended_before}
 

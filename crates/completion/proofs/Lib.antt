@@ -1,4 +1,5 @@
 pub mod Common
+pub mod Std
 pub mod Splits
 pub mod Looks
 pub mod Steps

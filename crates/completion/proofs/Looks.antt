@@ -1,5 +1,6 @@
 -- The offers of what is expected, the end among it.
-use Rattle.completion.proofs.Common.{◌++◌, ◌≡◌, ◌∷◌, ℕ, Bool, true, false, List, [], Option, Some, None, ap, flat_map, refl, in_file_order, offer_of, RuleText}
+use Rattle.completion.proofs.Std.{◌++◌, ◌≡◌, ◌∷◌, ℕ, Bool, true, false, List, [], Option, Some, None, ap, flat_map, refl}
+use Rattle.completion.proofs.Common.{in_file_order, offer_of, RuleText}
 
 -- the offer of what is expected: none of the end
 abbrev pub of_look : List (Option RuleText) → List ℕ → Option ℕ → List (ℕ × List ℕ)

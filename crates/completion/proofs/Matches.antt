@@ -1,5 +1,5 @@
 -- What a test or an option leaves of two facts.
-use Rattle.completion.proofs.Common.{◌≡◌, ◌∷◌, [], Bool, List, MatchBool, MatchOption, None, Option, Some, false, is_some, option_to_list, subst, true}
+use Rattle.completion.proofs.Std.{◌≡◌, ◌∷◌, [], Bool, List, MatchBool, MatchOption, None, Option, Some, false, is_some, option_to_list, subst, true}
 
 pub of_true : (A B : Type 0) (b : Bool) → b ≡ true → MatchBool b A B → A
 of_true A B b e = subst (λ b. MatchBool b A B) e

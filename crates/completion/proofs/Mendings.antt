@@ -1,5 +1,6 @@
 -- What repairs make of the kinds before a place.
-use Rattle.completion.proofs.Common.{◌++◌, ◌+◌, ◌<◌, ◌≤◌, ◌≡◌, ◌∙◌, ◌∷◌, ℕ, suc, List, [], ap, append_assoc, arith, drop, get_or, length, refl, sym, Kind, TokenRule}
+use Rattle.completion.proofs.Std.{◌++◌, ◌+◌, ◌<◌, ◌≤◌, ◌≡◌, ◌∙◌, ◌∷◌, ℕ, suc, List, [], ap, append_assoc, arith, drop, get_or, length, refl, sym}
+use Rattle.completion.proofs.Common.{Kind, TokenRule}
 use Rattle.std.proofs.Math.Seq.{drop-cons}
 use Rattle.std.proofs.lemmas.List.{drop_all}
 use Rattle.definitions.specs.declared.Kind.TheVariants.{Invalid}

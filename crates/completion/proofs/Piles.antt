@@ -1,5 +1,6 @@
 -- The stack that is found after kinds, and what may follow there.
-use Rattle.completion.proofs.Common.{◌≡◌, ℕ, List, Option, IfOk, IfSome, MatchOption, subst, sym, AreExpected, AreStatesAfter, IsViable, Kind, Sets}
+use Rattle.completion.proofs.Std.{◌≡◌, ℕ, List, Option, IfOk, IfSome, MatchOption, subst, sym}
+use Rattle.completion.proofs.Common.{AreExpected, AreStatesAfter, IsViable, Kind, Sets}
 use Rattle.std.specs.Prelude.{Result}
 use Rattle.states.specs.Piles.{Standing}
 

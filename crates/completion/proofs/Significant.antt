@@ -1,5 +1,6 @@
 -- The kinds of the first tokens that aren't skipped.
-use Rattle.completion.proofs.Common.{◌++◌, ◌+◌, ◌≡◌, ◌∙◌, ◌∷◌, ℕ, true, false, List, [], ap, append-nil, drop, length, sym, take, take-append-drop, refl, Kind, kind_in, kinds_append, significant_kinds, Token}
+use Rattle.completion.proofs.Std.{◌++◌, ◌+◌, ◌≡◌, ◌∙◌, ◌∷◌, ℕ, true, false, List, [], ap, append-nil, drop, length, sym, take, take-append-drop, refl}
+use Rattle.completion.proofs.Common.{Kind, kind_in, kinds_append, significant_kinds, Token}
 use Rattle.std.proofs.Math.Seq.{take-append_seam}
 use Rattle.completion.proofs.Steps.{take_here}
 

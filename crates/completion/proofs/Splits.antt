@@ -1,5 +1,7 @@
 -- The token that stands before an offset, and its text with a character typed into it.
-use Rattle.completion.proofs.Common.{◌++◌, ◌+◌, ◌-◌, ◌<◌, ◌≤◌, ◌≡◌, ◌∙◌, ◌∷◌, ℕ, zero, suc, IsTrue, List, MatchOption, [], None, Option, Some, is_some, option_to_list, ap, arith, cases_lt, drop, false, inl, inr, length, length-drop, length-take, map, map-append, map-map, nat_lt, refl, subst, sum_by-take-le, sym, take, take_all, true, slice_range, slice_set, slice_get, chars, chars-cons, chars-plain, characters, characters-more, drop-drop, drop-take, take-take, EndsAt, Expression, IsLetter, IsPiece, IsPiece-inside, Kind, PlainToken, Sums, Token, kind_in, ltb-false, ltb-true, plain, plain-take, tot, total_characters, typed, head-eq_of_cons-eq, tail-eq_of_cons-eq}
+use Rattle.completion.proofs.Std.{◌++◌, ◌+◌, ◌-◌, ◌<◌, ◌≤◌, ◌≡◌, ◌∙◌, ◌∷◌, ℕ, zero, suc, IsTrue, List, MatchOption, [], None, Option, Some, is_some, option_to_list, ap, drop, false, inl, inr, length, map, nat_lt, refl, subst, sym, take, true, slice_range, slice_set, slice_get}
+use Rattle.completion.proofs.Std.{arith, cases_lt, length-drop, length-take, map-append, map-map, sum_by-take-le, take_all, drop-drop, drop-take, take-take, ltb-false, ltb-true, head-eq_of_cons-eq, tail-eq_of_cons-eq}
+use Rattle.completion.proofs.Common.{chars, chars-cons, chars-plain, characters, characters-more, EndsAt, Expression, IsLetter, IsPiece, IsPiece-inside, Kind, PlainToken, Sums, Token, kind_in, plain, plain-take, tot, total_characters, typed}
 use Rattle.completion.proofs.Steps.{take_here}
 
 abbrev kind_of_plain : PlainToken → Kind

@@ -1,5 +1,6 @@
 -- One step further along a list.
-use Rattle.completion.proofs.Common.{◌++◌, ◌+◌, ◌-◌, ◌<◌, ◌≤◌, ◌≡◌, ◌∙◌, ◌∷◌, ℕ, zero, suc, IsTrue, true, false, List, [], ap, arith, append-nil, append_assoc, cases_lt, drop, drop-drop, encode_utf8, encode_utf8_all, get_or, head-eq_of_cons-eq, inl, inr, length, slice_range, subst, sym, take, is_in_word}
+use Rattle.completion.proofs.Std.{◌++◌, ◌+◌, ◌-◌, ◌<◌, ◌≤◌, ◌≡◌, ◌∙◌, ◌∷◌, ℕ, zero, suc, IsTrue, true, false, List, [], ap, arith, append-nil, append_assoc, cases_lt, drop, drop-drop, encode_utf8, encode_utf8_all, get_or, head-eq_of_cons-eq, inl, inr, length, slice_range, subst, sym, take}
+use Rattle.completion.proofs.Common.{is_in_word}
 
 module _ {X : Type 0} where
   tail_suc : (xs : List X) (n : ℕ) (x : X) (rest : List X) → drop n xs ≡ x ∷ rest → rest ≡ drop (suc n) xs

@@ -1,5 +1,6 @@
 -- What UTF-8 spells is a text, and so is a text after an edit.
-use Rattle.definitions.proofs.Common.{IsUtf8, all_scalars, chars, and_parts, All-nil, All-cons, All-same, All-append, All-take, All-drop, chars-encodes, IsCharacter, IsText, edit, sym, ap, ◌∙◌, ◌≡◌, ℕ, true, List, [], ◌∷◌, ◌++◌, take, drop, encode_utf8_all}
+use Rattle.definitions.proofs.Std.{IsUtf8, all_scalars, chars, and_parts, All-nil, All-cons, All-same, All-append, All-take, All-drop, chars-encodes, sym, ap, ◌∙◌, ◌≡◌, ℕ, true, List, [], ◌∷◌, ◌++◌, take, drop, encode_utf8_all}
+use Rattle.definitions.proofs.Common.{IsCharacter, IsText, edit}
 use Rattle.definitions.proofs.TextLaws.{IsCharacter-from_scalar}
 
 IsText-scalars : (cs : List ℕ) → all_scalars cs ≡ true → IsText cs

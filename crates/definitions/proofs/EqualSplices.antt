@@ -1,5 +1,6 @@
 -- Splices of kinds are equal by `==` where they say the same.
-use Rattle.definitions.proofs.Common.{refl, ap, ◌≡◌, ◌↔◌, Bool, ◌&&◌, true, nat_eq, and_from, and_parts, slice_eq-Decides, eq-eqb, eqb-true, pointwise, Kind, KindSplice, Splice, plain_splice}
+use Rattle.definitions.proofs.Std.{refl, ap, ◌≡◌, ◌↔◌, Bool, ◌&&◌, true, nat_eq, and_from, and_parts, slice_eq-Decides, eq-eqb, eqb-true, pointwise}
+use Rattle.definitions.proofs.Common.{Kind, KindSplice, Splice, plain_splice}
 
 pub same_splices : (E : Kind → Kind → Bool) → ((j k : Kind) → (E j k ≡ true) ↔ (j ≡ k)) → (a b : KindSplice)
     → (((nat_eq a.from b.from && (nat_eq a.to b.to && pointwise E a.kinds.items b.kinds.items))) ≡ true) ↔ (plain_splice a ≡ plain_splice b)

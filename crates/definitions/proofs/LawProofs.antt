@@ -1,5 +1,6 @@
 -- The proofs of the laws, from the lemmas of the other files.
-use Rattle.definitions.proofs.Common.{arith, refl, sym, inl, inr, ◌∙◌, ◌≡◌, ℕ, ◌<◌, ◌⊎◌, ◌↔◌, Bool, true, false, not, List, [], ◌∷◌, IsTrue, cases_Bool, and_from, le-leb, false≢true, list_any-from_Any, AllPairs-from_increasing, Kind, Interval, IsCharacter, is_within, is_member, is_in_class, is_nothing, Grammar, IsExpected, AreWell}
+use Rattle.definitions.proofs.Std.{arith, refl, sym, inl, inr, ◌∙◌, ◌≡◌, ℕ, ◌<◌, ◌⊎◌, ◌↔◌, Bool, true, false, not, List, [], ◌∷◌, IsTrue, cases_Bool, and_from, le-leb, false≢true, list_any-from_Any, AllPairs-from_increasing}
+use Rattle.definitions.proofs.Common.{Kind, Interval, IsCharacter, is_within, is_member, is_in_class, is_nothing, Grammar, IsExpected, AreWell}
 use Rattle.definitions.proofs.Everything.{AreIntervals, everything, is_everything-from}
 use Rattle.definitions.proofs.Ordered.{same_elements}
 

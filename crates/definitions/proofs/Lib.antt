@@ -1,4 +1,5 @@
 pub mod Common
+pub mod Std
 pub mod AnswerRows
 pub mod AnswersUnique
 pub mod Characters

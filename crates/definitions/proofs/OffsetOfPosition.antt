@@ -1,5 +1,6 @@
 -- The offset of the position of an offset is that offset, but after the end of its line, between a `\r` and its `\n`.
-use Rattle.definitions.proofs.Common.{◌≡◌, ℕ, zero, suc, ◌+◌, ◌-◌, ◌<◌, ◌≤◌, ◌⊎◌, Bool, true, false, nat_le, nat_lt, List, [], ◌∷◌, length, take, slice_index_or, count_by, cases_lt, lt-leb, leb-true, leb-false, sum_by-cons, Encoding, Utf8, Utf16, Utf32, ends_break, break_ends, line_of, line_start, line_from, unit, units, offset, position, IsOffset, arith, refl, ap, inl, inr, ◌∙◌, cond}
+use Rattle.definitions.proofs.Std.{◌≡◌, ℕ, zero, suc, ◌+◌, ◌-◌, ◌<◌, ◌≤◌, ◌⊎◌, Bool, true, false, nat_le, nat_lt, List, [], ◌∷◌, length, take, slice_index_or, count_by, cases_lt, lt-leb, leb-true, leb-false, sum_by-cons, arith, refl, ap, inl, inr, ◌∙◌, cond}
+use Rattle.definitions.proofs.Common.{Encoding, Utf8, Utf16, Utf32, ends_break, break_ends, line_of, line_start, line_from, unit, units, offset, position, IsOffset}
 use Rattle.definitions.proofs.TextLaws.{IsOffset-offset}
 
 -- how many of the breaks after place p end at or before offset o

@@ -1,5 +1,7 @@
 -- An offset that is not between a `\r` and its `\n` is at most the end of its line.
-use Rattle.definitions.proofs.Common.{◌≡◌, ℕ, zero, suc, ◌+◌, ◌-◌, ◌<◌, ◌≤◌, ◌⊎◌, Bool, true, false, not, ◌||◌, ◌&&◌, ◌==◌, nat_le, List, [], ◌∷◌, length, take, slice_index, slice_index_or, prefix_len, cases_lt, cases_Bool, le-leb, leb-false, eqb-true, or_parts, or_cases, false≢true, get_or-drop, length-prefix_len, prefix_len_stops, Encoding, begins_with, ends_break, break_ends, line_of, line_start, line_from, offset, position, IsInLine, arith, refl, sym, ap, subst, inl, inr, ◌∙◌, cond, length-drop, drop}
+use Rattle.definitions.proofs.Std.{◌≡◌, ℕ, zero, suc, ◌+◌, ◌-◌, ◌<◌, ◌≤◌, ◌⊎◌, Bool, true, false, not, ◌||◌, ◌&&◌, ◌==◌, nat_le, List, [], ◌∷◌, length, take, slice_index, slice_index_or, prefix_len, refl, sym, ap, subst, inl, inr, ◌∙◌, cond, drop}
+use Rattle.definitions.proofs.Std.{cases_lt, cases_Bool, le-leb, leb-false, eqb-true, or_parts, or_cases, false≢true, get_or-drop, length-prefix_len, prefix_len_stops, arith, length-drop}
+use Rattle.definitions.proofs.Common.{Encoding, begins_with, ends_break, break_ends, line_of, line_start, line_from, offset, position, IsInLine}
 use Rattle.definitions.proofs.OffsetOfPosition.{ended, ended-cons, none_ended, offset-position}
 
 -- whether a line goes on over the character

@@ -1,5 +1,6 @@
 -- The position of an offset past the end of a text is that of the end.
-use Rattle.definitions.proofs.Common.{◌≡◌, ℕ, ◌+◌, ◌-◌, ◌<◌, ◌≤◌, ◌⊎◌, min, Bool, true, false, not, ◌||◌, ◌==◌, List, [], ◌∷◌, length, take, prefix_len, cases_lt, le-leb, length-take, take_all, Encoding, ends_break, break_ends, line_of, line_start, line_from, units, position, arith, refl, sym, ap, inl, inr, ◌∙◌, cond, drop, length-drop}
+use Rattle.definitions.proofs.Std.{◌≡◌, ℕ, ◌+◌, ◌-◌, ◌<◌, ◌≤◌, ◌⊎◌, min, Bool, true, false, not, ◌||◌, ◌==◌, List, [], ◌∷◌, length, take, prefix_len, cases_lt, le-leb, length-take, take_all, arith, refl, sym, ap, inl, inr, ◌∙◌, cond, drop, length-drop}
+use Rattle.definitions.proofs.Common.{Encoding, ends_break, break_ends, line_of, line_start, line_from, units, position}
 use Rattle.definitions.proofs.OffsetOfPosition.{ended, ended-cons}
 
 -- each break of a text ends in it

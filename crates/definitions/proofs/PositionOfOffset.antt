@@ -1,5 +1,7 @@
 -- The position of the offset of a position that counts whole characters of a line is that position.
-use Rattle.definitions.proofs.Common.{◌≡◌, ℕ, zero, suc, ◌+◌, ◌-◌, ◌<◌, ◌≤◌, ◌⊎◌, Bool, true, false, not, ◌||◌, ◌&&◌, ◌==◌, nat_le, List, [], ◌∷◌, length, take, slice_index, slice_index_or, prefix_len, cases_lt, le-leb, lt-leb, and_parts, or_cases, false≢true, get_or-drop, length-prefix_len, prefix_len_passes, Position, Encoding, begins_with, ends_break, break_ends, line_of, line_start, line_from, units, greatest, offset, position, IsPlace, arith, refl, sym, ap, subst, inl, inr, ◌∙◌, cond, drop}
+use Rattle.definitions.proofs.Std.{◌≡◌, ℕ, zero, suc, ◌+◌, ◌-◌, ◌<◌, ◌≤◌, ◌⊎◌, Bool, true, false, not, ◌||◌, ◌&&◌, ◌==◌, nat_le, List, [], ◌∷◌, length, take, slice_index, slice_index_or, prefix_len, refl, sym, ap, subst, inl, inr, ◌∙◌, cond, drop}
+use Rattle.definitions.proofs.Std.{cases_lt, le-leb, lt-leb, and_parts, or_cases, false≢true, get_or-drop, length-prefix_len, prefix_len_passes, arith}
+use Rattle.definitions.proofs.Common.{Position, Encoding, begins_with, ends_break, break_ends, line_of, line_start, line_from, units, greatest, offset, position, IsPlace}
 use Rattle.definitions.proofs.TextLaws.{greatest-is}
 use Rattle.definitions.proofs.OffsetOfPosition.{ended, ended-cons, none_ended, units-take-lt}
 use Rattle.definitions.proofs.OffsetsInLine.{in_line}

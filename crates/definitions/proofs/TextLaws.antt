@@ -1,5 +1,6 @@
 -- Laws of characters and offsets.
-use Rattle.definitions.proofs.Common.{◌≡◌, ℕ, zero, suc, ◌+◌, ◌-◌, ◌<◌, ◌≤◌, ◌⊎◌, Bool, true, false, nat_le, List, length, take, IsScalar, cases_lt, le-leb, le-ltb, lt-ltb, leb-true, and_from, false≢true, Position, Encoding, IsCharacter, line_start, line_from, units, greatest, offset, IsOffset, scalar_cases, low_scalar, arith, refl, sym, subst, inl, inr, ◌∙◌, cond}
+use Rattle.definitions.proofs.Std.{◌≡◌, ℕ, zero, suc, ◌+◌, ◌-◌, ◌<◌, ◌≤◌, ◌⊎◌, Bool, true, false, nat_le, List, length, take, IsScalar, cases_lt, le-leb, le-ltb, lt-ltb, leb-true, and_from, false≢true, scalar_cases, low_scalar, arith, refl, sym, subst, inl, inr, ◌∙◌, cond}
+use Rattle.definitions.proofs.Common.{Position, Encoding, IsCharacter, line_start, line_from, units, greatest, offset, IsOffset}
 
 -- a character is what a `char` holds
 pub IsCharacter-from_scalar : (c : ℕ) → IsScalar c → IsCharacter c

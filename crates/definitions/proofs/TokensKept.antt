@@ -1,5 +1,8 @@
 -- What an edit keeps are tokens of both texts: the kept ones at the start are the same in both lists, and so are those after.
-use Rattle.definitions.proofs.Common.{prefix_len, cases_lt, and_from, and_parts, le-leb, leb-true, eq-eqb, eqb-true, false≢true, append_assoc, take-take, drop_at, drop-drop, length-take, take_at, drop-take, get_or_default, fails_before_first, passes_at_first, Any-from_list_any, list_any_at, edit, Edit, Expression, Token, IsToken, AreTokens, placed, boundaries, kept_before, is_rejoined, rejoin, arith, refl, sym, ap, subst, inl, inr, ◌∙◌, cond, length-append, length-drop, ◌≡◌, ℕ, zero, suc, ◌+◌, ◌-◌, ◌<◌, ◌≤◌, ◌⊎◌, Bool, true, false, ◌==◌, nat_le, List, [], ◌∷◌, ◌++◌, length, take, drop, slice_index_or}
+use Rattle.definitions.proofs.Std.{prefix_len, refl, sym, ap, subst, inl, inr, ◌∙◌, cond, ◌≡◌, ℕ, zero, suc, ◌+◌, ◌-◌, ◌<◌, ◌≤◌, ◌⊎◌, Bool, true, false, ◌==◌, nat_le, List, [], ◌∷◌, ◌++◌, length, take, drop, slice_index_or}
+use Rattle.definitions.proofs.Std.{cases_lt, and_from, and_parts, le-leb, leb-true, eq-eqb, eqb-true, false≢true, append_assoc, take-take, drop_at, drop-drop, length-take, take_at, drop-take, get_or_default, fails_before_first, passes_at_first, Any-from_list_any, list_any_at, arith}
+use Rattle.definitions.proofs.Std.{length-append, length-drop}
+use Rattle.definitions.proofs.Common.{edit, Edit, Expression, Token, IsToken, AreTokens, placed, boundaries, kept_before, is_rejoined, rejoin}
 use Rattle.definitions.proofs.TokensUnique.{AreTokens-unique, IsToken-unique, IsPiece-inside, no_token}
 use Rattle.definitions.proofs.TokensLocal.{IsToken-local, length-le-reach}
 

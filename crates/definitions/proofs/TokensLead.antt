@@ -1,6 +1,8 @@
 -- The first tokens of a text: with those of what they leave they are all its tokens, and the prefix that an edit keeps leads
 -- the edited text.
-use Rattle.definitions.proofs.Common.{prefix_len, cases_lt, leb-true, false≢true, append_assoc, take-take, drop-take, drop-drop, take_at, length-take, sum_by-cons, passes_at_first, Edit, Expression, edit, Token, Placed, IsToken, AreTokens, Leads, placed, boundaries, kept_before, is_rejoined, rejoin, arith, refl, sym, ap, subst, inl, inr, ◌∙◌, cond, length-drop, ◌≡◌, ℕ, zero, suc, ◌+◌, ◌-◌, ◌<◌, ◌≤◌, Bool, true, false, nat_le, List, [], ◌∷◌, ◌++◌, length, take, drop, sum_by, slice_get, slice_index_or, IsSomeAnd}
+use Rattle.definitions.proofs.Std.{prefix_len, refl, sym, ap, subst, inl, inr, ◌∙◌, cond, ◌≡◌, ℕ, zero, suc, ◌+◌, ◌-◌, ◌<◌, ◌≤◌, Bool, true, false, nat_le, List, [], ◌∷◌, ◌++◌, length, take, drop, sum_by, slice_get, slice_index_or, IsSomeAnd}
+use Rattle.definitions.proofs.Std.{cases_lt, leb-true, false≢true, append_assoc, take-take, drop-take, drop-drop, take_at, length-take, sum_by-cons, passes_at_first, arith, length-drop}
+use Rattle.definitions.proofs.Common.{Edit, Expression, edit, Token, Placed, IsToken, AreTokens, Leads, placed, boundaries, kept_before, is_rejoined, rejoin}
 use Rattle.definitions.proofs.TokensLocal.{IsToken-local, length-le-reach}
 use Rattle.definitions.proofs.TokensUnique.{IsToken-unique, IsPiece-inside, no_token}
 

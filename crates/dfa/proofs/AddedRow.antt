@@ -1,5 +1,9 @@
 -- One more row of the table.
-use Rattle.dfa.proofs.Common.{◌≡◌, ℕ, zero, suc, ◌+◌, ◌-◌, ◌*◌, ◌<◌, ◌≤◌, Bool, true, List, [], ◌∷◌, ◌++◌, length, slice_index_or, get_or, Option, None, refl, sym, ap, ◌∙◌, subst, inl, inr, arith, All, Contains, nat_le, unary_clauses, All-push, cases_lt, length-append, get_or_default, get_or_append_left, get_or-append_right, prefix_len-le-length, mul-add-lt, mul_comm, Expression, IsText, IsCharacter, representative, all_cuts, positions, StandsAt, next, all_next, all_holders, all_positions, first_end, successor, IsSetOf, AreMarksOf, Rises, part, IsAscending, IsFirst, IsTable, table_of, IsReached, AreStates, Grows, IsNumber, kept, IsStateOf, LeadsTo, AreRows, ArePartsOf, AreEntries, AreRules, Tree, AreTreesOf}
+use Rattle.dfa.proofs.Std.{◌≡◌, ℕ, zero, suc, ◌+◌, ◌-◌, ◌*◌, ◌<◌, ◌≤◌, Bool, true, List, [], ◌∷◌, ◌++◌, length, slice_index_or, get_or, Option, None, refl, sym, ap, ◌∙◌, subst, inl, inr, All, Contains, nat_le}
+use Rattle.dfa.proofs.Std.{arith, unary_clauses, All-push, cases_lt, length-append, get_or_default, get_or_append_left, get_or-append_right, prefix_len-le-length, mul-add-lt, mul_comm}
+use Rattle.dfa.proofs.Common.{Expression, IsText, IsCharacter}
+use Rattle.dfa.proofs.Common.{representative, all_cuts, positions, StandsAt, next, all_next, all_holders, all_positions, first_end, successor, IsSetOf, AreMarksOf, Rises, part, IsAscending, IsFirst, IsTable, table_of}
+use Rattle.dfa.proofs.Common.{IsReached, AreStates, Grows, IsNumber, kept, IsStateOf, LeadsTo, AreRows, ArePartsOf, AreEntries, AreRules, Tree, AreTreesOf}
 use Rattle.dfa.proofs.SameClass.{stands_for}
 use Rattle.dfa.proofs.HolderLists.{all_below, all_rise}
 use Rattle.dfa.proofs.LastPositions.{below}

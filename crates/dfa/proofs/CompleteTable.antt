@@ -1,5 +1,6 @@
 -- A table whose rows are all there is the automaton of the rules.
-use Rattle.dfa.proofs.Common.{◌≡◌, ◌≢◌, ℕ, zero, suc, ◌+◌, ◌*◌, ◌<◌, ◌≤◌, List, [], ◌∷◌, ◌++◌, length, slice_index_or, Option, Some, None, MatchOption, refl, sym, ap, ◌∙◌, subst, inl, arith, add-one, nat_le, slice_get, append-nil, append_assoc, length-append, prefix_len-le-length, IsSomeAnd, Expression, IsText, IsCharacter, Matches, IsPrefix, IsRulePrefix, part, numbered, follower, state_from, state_after, IsFirst, IsAutomaton, HasPosition, HaveSamePositions, AllMade, Among, IsSetOf, table_of, IsStateOf, AreRows}
+use Rattle.dfa.proofs.Std.{◌≡◌, ◌≢◌, ℕ, zero, suc, ◌+◌, ◌*◌, ◌<◌, ◌≤◌, List, [], ◌∷◌, ◌++◌, length, slice_index_or, Option, Some, None, MatchOption, refl, sym, ap, ◌∙◌, subst, inl, arith, add-one, nat_le, slice_get, append-nil, append_assoc, length-append, prefix_len-le-length, IsSomeAnd}
+use Rattle.dfa.proofs.Common.{Expression, IsText, IsCharacter, Matches, IsPrefix, IsRulePrefix, part, numbered, follower, state_from, state_after, IsFirst, IsAutomaton, HasPosition, HaveSamePositions, AllMade, Among, IsSetOf, table_of, IsStateOf, AreRows}
 use Rattle.dfa.proofs.Successors.{empty_set}
 use Rattle.dfa.proofs.RuleLists.{rules_prefix, rules_stand}
 

@@ -1,5 +1,6 @@
 -- The marks of a text say whether it ends with a text of the expression.
-use Rattle.dfa.proofs.Common.{◌≡◌, ℕ, ◌+◌, ◌-◌, ◌<◌, Bool, true, List, [], ◌∷◌, ◌++◌, length, take, refl, sym, ap, ◌∙◌, subst, inl, inr, arith, add-one, concat, append-nil, append_assoc, or_cases, or_left, or_right, Expression, Literal, Class, Sequence', Choice', Star', Plus', Optional', Matches, IsJoin, IsNonemptyJoin, positions, Then, CanStandAt, mark, literal_end, ends}
+use Rattle.dfa.proofs.Std.{◌≡◌, ℕ, ◌+◌, ◌-◌, ◌<◌, Bool, true, List, [], ◌∷◌, ◌++◌, length, take, refl, sym, ap, ◌∙◌, subst, inl, inr, arith, add-one, concat, append-nil, append_assoc, or_cases, or_left, or_right}
+use Rattle.dfa.proofs.Common.{Expression, Literal, Class, Sequence', Choice', Star', Plus', Optional', Matches, IsJoin, IsNonemptyJoin, positions, Then, CanStandAt, mark, literal_end, ends}
 use Rattle.dfa.proofs.LastPositions.{Stands, InLiteral, Is, then_left, then_right, below, join_none, join_more, nonempty_join, last_part, sequence_first, sequence_second, sequence_cases}
 
 -- the marks from o on are places where the last character of u can stand in e, and they are all of these

@@ -1,5 +1,6 @@
 -- The positions that hold a character, as a rising list.
-use Rattle.dfa.proofs.Common.{◌≡◌, ℕ, zero, suc, ◌+◌, ◌-◌, ◌<◌, ◌≤◌, ◌⊎◌, Bool, true, false, List, [], ◌∷◌, length, slice_index_or, refl, sym, subst, inl, inr, arith, add-one, if◌then◌else◌, eqb_tells, Expression, Literal, Class, Sequence', Choice', Star', Plus', Optional', is_in_class, positions, literal_holders, holders, all_positions, all_holders, Among, Rises}
+use Rattle.dfa.proofs.Std.{◌≡◌, ℕ, zero, suc, ◌+◌, ◌-◌, ◌<◌, ◌≤◌, ◌⊎◌, Bool, true, false, List, [], ◌∷◌, length, slice_index_or, refl, sym, subst, inl, inr, arith, add-one, if◌then◌else◌, eqb_tells}
+use Rattle.dfa.proofs.Common.{Expression, Literal, Class, Sequence', Choice', Star', Plus', Optional', is_in_class, positions, literal_holders, holders, all_positions, all_holders, Among, Rises}
 use Rattle.dfa.proofs.Sets.{among_append, among_left, among_right, rises_append, rises_lower}
 use Rattle.dfa.proofs.Steps.{Holds, holds_below}
 use Rattle.dfa.proofs.RuleLists.{HoldsIn}

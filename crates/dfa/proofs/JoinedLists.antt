@@ -1,5 +1,6 @@
 -- Lists that are made part by part.
-use Rattle.dfa.proofs.Common.{◌≡◌, ℕ, zero, suc, ◌+◌, ◌<◌, false, List, [], ◌∷◌, ◌++◌, length, drop, sym, ap, ◌∙◌, subst, arith, zero-add, get_or, append_assoc, Expression, IsWellMade, unmarked, AllMade}
+use Rattle.dfa.proofs.Std.{◌≡◌, ℕ, zero, suc, ◌+◌, ◌<◌, false, List, [], ◌∷◌, ◌++◌, length, drop, sym, ap, ◌∙◌, subst, arith, zero-add, get_or, append_assoc}
+use Rattle.dfa.proofs.Common.{Expression, IsWellMade, unmarked, AllMade}
 
 pub unmarked-add : (m n : ℕ) → unmarked m ++ unmarked n ≡ unmarked (m + n)
 unmarked-add zero n = ap unmarked (sym (zero-add n))

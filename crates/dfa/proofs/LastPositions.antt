@@ -1,5 +1,6 @@
 -- Where the last character of a text can stand in an expression that begins after certain texts.
-use Rattle.dfa.proofs.Common.{◌≡◌, ℕ, ◌+◌, ◌-◌, ◌<◌, ◌≤◌, ◌⊎◌, List, [], ◌∷◌, ◌++◌, length, take, refl, sym, ap, ◌∙◌, inl, inr, arith, concat, AllByRecursion, append-nil, append_assoc, length-append, length-take-le, Expression, Literal, Class, Sequence', Choice', Star', Plus', Optional', Matches, IsJoin, IsNonemptyJoin, positions, Then, CanStandAt}
+use Rattle.dfa.proofs.Std.{◌≡◌, ℕ, ◌+◌, ◌-◌, ◌<◌, ◌≤◌, ◌⊎◌, List, [], ◌∷◌, ◌++◌, length, take, refl, sym, ap, ◌∙◌, inl, inr, arith, concat, AllByRecursion, append-nil, append_assoc, length-append, length-take-le}
+use Rattle.dfa.proofs.Common.{Expression, Literal, Class, Sequence', Choice', Star', Plus', Optional', Matches, IsJoin, IsNonemptyJoin, positions, Then, CanStandAt}
 
 -- the expression begins after a text of K, and the last character of u can stand at position q
 abbrev pub Stands : (List ℕ → Type 0) → Expression → ℕ → List ℕ → Type 0

@@ -1,4 +1,5 @@
 pub mod Common
+pub mod Std
 pub mod SameClass
 pub mod LongestMatch
 pub mod CompleteTable

@@ -1,5 +1,7 @@
 -- Steps of a search for the longest match.
-use Rattle.dfa.proofs.Common.{min, MatchOption, cases_lt, take_more, length-take, get_or-take, get_or-drop, drop-drop, All-push, All-get_or, Expression, IsText, IsCharacter, RuleMatches, IsRulePrefix, IsPiece, IsReach, IsRulePrefix-take, Table, next_state, follower, state_from, state_after, IsFirst, IsAutomaton, Stays, kind_of, Match, IsBest, IsNoted, IsWithinReach, arith, refl, sym, ap, subst, inl, inr, ◌∙◌, length-drop, ◌≡◌, ℕ, zero, suc, ◌+◌, ◌<◌, ◌≤◌, ◌⊎◌, All, List, [], ◌∷◌, ◌++◌, length, take, drop, slice_index_or, Option, Some, None}
+use Rattle.dfa.proofs.Std.{min, MatchOption, refl, sym, ap, subst, inl, inr, ◌∙◌, ◌≡◌, ℕ, zero, suc, ◌+◌, ◌<◌, ◌≤◌, ◌⊎◌, All, List, [], ◌∷◌, ◌++◌, length, take, drop, slice_index_or, Option, Some, None}
+use Rattle.dfa.proofs.Std.{cases_lt, take_more, length-take, get_or-take, get_or-drop, drop-drop, All-push, All-get_or, arith, length-drop}
+use Rattle.dfa.proofs.Common.{Expression, IsText, IsCharacter, RuleMatches, IsRulePrefix, IsPiece, IsReach, IsRulePrefix-take, Table, next_state, follower, state_from, state_after, IsFirst, IsAutomaton, Stays, kind_of, Match, IsBest, IsNoted, IsWithinReach}
 
 state_from-more : (table : Table) (o : Option ℕ) (u : List ℕ) (c : ℕ) → state_from table o (u ++ c ∷ []) ≡ next_state table (state_from table o u) c
 state_from-more table o [] c = refl

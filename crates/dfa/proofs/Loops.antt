@@ -1,5 +1,6 @@
 -- Steps of loops over the rules and over the characters of a literal.
-use Rattle.dfa.proofs.Common.{◌≡◌, ℕ, zero, suc, ◌+◌, ◌<◌, ◌≤◌, ◌==◌, true, false, List, [], ◌∷◌, ◌++◌, length, drop, get_or, sym, ap, ◌∙◌, arith, cond, nat_tests, at_drop_all, Expression, positions, all_positions, literal_holders}
+use Rattle.dfa.proofs.Std.{◌≡◌, ℕ, zero, suc, ◌+◌, ◌<◌, ◌≤◌, ◌==◌, true, false, List, [], ◌∷◌, ◌++◌, length, drop, get_or, sym, ap, ◌∙◌, arith, cond, nat_tests, at_drop_all}
+use Rattle.dfa.proofs.Common.{Expression, positions, all_positions, literal_holders}
 use Rattle.std.proofs.Common.{append-nil, append_assoc}
 use Rattle.dfa.proofs.JoinedLists.{one_more}
 

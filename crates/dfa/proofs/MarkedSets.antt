@@ -1,5 +1,6 @@
 -- The marks of a set, and whether some of them lie in a part of the positions.
-use Rattle.dfa.proofs.Common.{◌≡◌, ℕ, zero, suc, ◌+◌, ◌<◌, ◌≤◌, ◌⊎◌, Bool, true, false, List, [], ◌∷◌, length, filter, get_or, nat_lt, Result, Ok, Err, refl, sym, ap, ◌∙◌, subst, inl, inr, arith, cases_lt, false≢true, or_cases, or_left, or_right, nat_tests, MatchResult, is_ok, mark, marked, marks_of, unmarked, Among, AreBlank, AreMarksOf, Rises, IsAscending, any_mark, listed, kept, false_from_ne_true}
+use Rattle.dfa.proofs.Std.{◌≡◌, ℕ, zero, suc, ◌+◌, ◌<◌, ◌≤◌, ◌⊎◌, Bool, true, false, List, [], ◌∷◌, length, filter, get_or, nat_lt, Result, Ok, Err, refl, sym, ap, ◌∙◌, subst, inl, inr, arith, cases_lt, false≢true, or_cases, or_left, or_right, nat_tests, MatchResult, is_ok, false_from_ne_true}
+use Rattle.dfa.proofs.Common.{mark, marked, marks_of, unmarked, Among, AreBlank, AreMarksOf, Rises, IsAscending, any_mark, listed, kept}
 use Rattle.dfa.proofs.Sets.{among_filter, among_from_at, at_from_among, filter_among, filter_rises, rises_least, rises_lower, same_set}
 
 marked_here : (p : ℕ) (marks : List Bool) → mark (marked p marks) p ≡ true

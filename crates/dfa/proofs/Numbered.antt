@@ -1,5 +1,8 @@
 -- The number of a set among the ones so far, as an index set finds it.
-use Rattle.dfa.proofs.Common.{◌≡◌, ℕ, zero, suc, ◌+◌, ◌<◌, ◌≤◌, ◌⊎◌, Bool, true, false, List, [], ◌∷◌, ◌++◌, length, slice_index_or, Some, refl, sym, ap, ◌∙◌, inl, inr, arith, Vec, slice_get, if◌then◌else◌, Global, list_any, bytes_eq, insert_key, cases_lt, or_parts, false≢true, length-append, get_or_append_left, bytes_eq-Decides, members, IsAbsent, Placed, IsNumber}
+use Rattle.dfa.proofs.Std.{◌≡◌, ℕ, zero, suc, ◌+◌, ◌<◌, ◌≤◌, ◌⊎◌, Bool, true, false, List, [], ◌∷◌, ◌++◌, length, slice_index_or, Some, refl, sym, ap, ◌∙◌, inl, inr, Vec, slice_get, if◌then◌else◌, Global, list_any, bytes_eq}
+use Rattle.dfa.proofs.Std.{arith, cases_lt, or_parts, false≢true, length-append, get_or_append_left, bytes_eq-Decides}
+use Rattle.dfa.proofs.Std.{insert_key}
+use Rattle.dfa.proofs.Common.{members, IsAbsent, Placed, IsNumber}
 
 abbrev Key : Type 0
 Key = Vec ℕ Global

@@ -1,5 +1,6 @@
 -- Tests on numbers, and numbers as lists give them.
-use Rattle.dfa.proofs.Common.{◌≡◌, ℕ, zero, suc, ◌+◌, ◌<◌, ◌≤◌, true, nat_le, List, drop, length, length-drop, ap, ◌∙◌, slice_index_or, Option, Some, IfSome, arith, sym, refl, get_or_default, get_or-drop, nat_tests, prefix_len-le-length, mul-add-lt, mul_comm, State, table_of, IsState, IsStored, IsAscending, IsTable, follower, numbered, part}
+use Rattle.dfa.proofs.Std.{◌≡◌, ℕ, zero, suc, ◌+◌, ◌<◌, ◌≤◌, true, nat_le, List, drop, length, length-drop, ap, ◌∙◌, slice_index_or, Option, Some, IfSome, arith, sym, refl, get_or_default, get_or-drop, nat_tests, prefix_len-le-length, mul-add-lt, mul_comm}
+use Rattle.dfa.proofs.Common.{State, table_of, IsState, IsStored, IsAscending, IsTable, follower, numbered, part}
 
 -- what is at or below c comes before what is not
 pub le_trans_test : (xs : List ℕ) (c : ℕ) → IsAscending xs → (i j : ℕ) (d : ℕ) → i ≤ j → j < length xs → nat_le (slice_index_or xs j d) c ≡ true → nat_le (slice_index_or xs i d) c ≡ true

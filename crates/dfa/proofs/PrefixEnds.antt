@@ -1,5 +1,6 @@
 -- A nonempty text begins a text of an expression exactly where its last character can stand in it.
-use Rattle.dfa.proofs.Common.{◌≡◌, ℕ, ◌+◌, ◌-◌, ◌≤◌, ◌⊎◌, List, [], ◌∷◌, ◌++◌, length, take, drop, refl, sym, ap, ◌∙◌, subst, inl, inr, arith, concat, AllByRecursion, append-nil, append_assoc, length-append, take_at, Expression, Literal, Class, Sequence', Choice', Star', Plus', Optional', Matches, IsPrefix, IsJoin, IsNonemptyJoin, IsWellMade, positions, Then, CanStandAt}
+use Rattle.dfa.proofs.Std.{◌≡◌, ℕ, ◌+◌, ◌-◌, ◌≤◌, ◌⊎◌, List, [], ◌∷◌, ◌++◌, length, take, drop, refl, sym, ap, ◌∙◌, subst, inl, inr, arith, concat, AllByRecursion, append-nil, append_assoc, length-append, take_at}
+use Rattle.dfa.proofs.Common.{Expression, Literal, Class, Sequence', Choice', Star', Plus', Optional', Matches, IsPrefix, IsJoin, IsNonemptyJoin, IsWellMade, positions, Then, CanStandAt}
 use Rattle.std.proofs.Common.{take-append-drop}
 use Rattle.dfa.proofs.LastPositions.{join_none, join_first, join_more, nonempty_join}
 

@@ -1,5 +1,6 @@
 -- One more row of the table, as the trees of the rules give it.
-use Rattle.dfa.proofs.Common.{◌≡◌, ℕ, ◌<◌, ◌≤◌, List, [], ◌∷◌, ◌++◌, Option, Some, Vec, Global, length, slice_index_or, nat_eq, sym, ap, ◌∙◌, subst, arith, slice_get, eq-eqb, eqb-true, Expression, Tree, AreEntries, AreRows, AreRules, AreStates, Grows, IsReached, kept, members, all_next, first_end, marks_of, Rises, all_counts, all_tree_next, first_tree_end}
+use Rattle.dfa.proofs.Std.{◌≡◌, ℕ, ◌<◌, ◌≤◌, List, [], ◌∷◌, ◌++◌, Option, Some, Vec, Global, length, slice_index_or, nat_eq, sym, ap, ◌∙◌, subst, arith, slice_get, eq-eqb, eqb-true}
+use Rattle.dfa.proofs.Common.{Expression, Tree, AreEntries, AreRows, AreRules, AreStates, Grows, IsReached, kept, members, all_next, first_end, marks_of, Rises, all_counts, all_tree_next, first_tree_end}
 use Rattle.dfa.proofs.AddedRow.{length-all_next, reached_parts, rows_made, states_rise, within_rules}
 use Rattle.dfa.proofs.MarkedSets.{all_listed_below, all_listed_rise, kept_listed, marks_are}
 use Rattle.dfa.proofs.Numbered.{stored_at}

@@ -1,5 +1,6 @@
 -- Positions of a list of rules: the marks after one more character, the first rule that ends, and the texts that go on.
-use Rattle.dfa.proofs.Common.{◌≡◌, ℕ, zero, suc, ◌+◌, ◌-◌, ◌<◌, ◌≤◌, ◌⊎◌, Bool, true, false, List, [], ◌∷◌, ◌++◌, length, Option, Some, None, refl, sym, ap, ◌∙◌, subst, inl, inr, arith, add-one, if◌then◌else◌, slice_get, IsSomeAnd, false≢true, Expression, Matches, IsPrefix, IsCharacter, RuleMatches, IsRulePrefix, positions, CanStandAt, StandsAt, mark, ends, next, all_next, first_end, AllMade, IsSetOf, AreMarksOf, IsFirst}
+use Rattle.dfa.proofs.Std.{◌≡◌, ℕ, zero, suc, ◌+◌, ◌-◌, ◌<◌, ◌≤◌, ◌⊎◌, Bool, true, false, List, [], ◌∷◌, ◌++◌, length, Option, Some, None, refl, sym, ap, ◌∙◌, subst, inl, inr, arith, add-one, if◌then◌else◌, slice_get, IsSomeAnd, false≢true}
+use Rattle.dfa.proofs.Common.{Expression, Matches, IsPrefix, IsCharacter, RuleMatches, IsRulePrefix, positions, CanStandAt, StandsAt, mark, ends, next, all_next, first_end, AllMade, IsSetOf, AreMarksOf, IsFirst}
 use Rattle.dfa.proofs.LastPositions.{Stands, Is, below, nonempty}
 use Rattle.dfa.proofs.Ends.{Only, Every, ends_sound, ends_complete, mark_moved}
 use Rattle.dfa.proofs.Steps.{Holds, holds_below, length-next, mark_left, mark_right, step_sound, step_complete}

@@ -1,5 +1,7 @@
 -- Characters of one part of the alphabet are held by the same positions.
-use Rattle.dfa.proofs.Common.{◌≡◌, ℕ, zero, suc, ◌+◌, ◌<◌, ◌≤◌, ◌⊎◌, true, false, ◌&&◌, ◌||◌, not, ◌==◌, nat_le, List, [], ◌∷◌, ◌++◌, length, slice_index_or, refl, sym, ap, ◌∙◌, subst, inl, inr, arith, if◌then◌else◌, Contains, cases_lt, nat_tests, eqb_tells, get_or_default, Contains-append_left, Contains-append_right, prefix_len_is, prefix_len_passes, prefix_len_stops, prefix_len-le-length, Interval, Expression, Literal, Class, Sequence', Choice', Star', Plus', Optional', is_within, is_member, is_in_class, IsCharacter, after, cut, literal_cuts, class_cuts, cuts, all_cuts, representative, literal_holders, holders, all_holders, positions, IsAscending, part}
+use Rattle.dfa.proofs.Std.{◌≡◌, ℕ, zero, suc, ◌+◌, ◌<◌, ◌≤◌, ◌⊎◌, true, false, ◌&&◌, ◌||◌, not, ◌==◌, nat_le, List, [], ◌∷◌, ◌++◌, length, slice_index_or, refl, sym, ap, ◌∙◌, subst, inl, inr, if◌then◌else◌, Contains}
+use Rattle.dfa.proofs.Std.{arith, cases_lt, nat_tests, eqb_tells, get_or_default, Contains-append_left, Contains-append_right, prefix_len_is, prefix_len_passes, prefix_len_stops, prefix_len-le-length}
+use Rattle.dfa.proofs.Common.{Interval, Expression, Literal, Class, Sequence', Choice', Star', Plus', Optional', is_within, is_member, is_in_class, IsCharacter, after, cut, literal_cuts, class_cuts, cuts, all_cuts, representative, literal_holders, holders, all_holders, positions, IsAscending, part}
 
 -- c and d lie on the same side of each of these
 abbrev pub SameSide : List ℕ → ℕ → ℕ → Type 0

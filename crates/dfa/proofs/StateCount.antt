@@ -1,5 +1,8 @@
 -- The number of states: texts with different sets of positions have different states.
-use Rattle.dfa.proofs.Common.{◌≡◌, ℕ, zero, suc, ◌+◌, ◌-◌, Option, ◌<◌, ◌≤◌, ◌⊎◌, List, [], ◌∷◌, ◌++◌, length, slice_index_or, get_or, refl, sym, ap, ◌∙◌, subst, inl, inr, arith, add-one, All, AllPairs, cases_lt, length-append, get_or_default, get_or_append_left, get_or-append_right, All-push, all_pairs_push, Into, OneToOne, pigeonhole, Expression, StandsAt, HasPosition, HaveSamePositions, HasMoreStatesThan, AllMade, IsSetOf, table_of, state_after, AreStates, AreRows}
+use Rattle.dfa.proofs.Std.{◌≡◌, ℕ, zero, suc, ◌+◌, ◌-◌, Option, ◌<◌, ◌≤◌, ◌⊎◌, List, [], ◌∷◌, ◌++◌, length, slice_index_or, get_or, refl, sym, ap, ◌∙◌, subst, inl, inr, All, AllPairs}
+use Rattle.dfa.proofs.Std.{arith, add-one, cases_lt, length-append, get_or_default, get_or_append_left, get_or-append_right, All-push, all_pairs_push}
+use Rattle.dfa.proofs.Std.{Into, OneToOne, pigeonhole}
+use Rattle.dfa.proofs.Common.{Expression, StandsAt, HasPosition, HaveSamePositions, HasMoreStatesThan, AllMade, IsSetOf, table_of, state_after, AreStates, AreRows}
 use Rattle.dfa.proofs.CompleteTable.{some_member, shows, at_state, same_positions}
 use Rattle.dfa.proofs.Successors.{set_unique}
 

@@ -1,5 +1,6 @@
 -- The states as their list grows.
-use Rattle.dfa.proofs.Common.{◌≡◌, ℕ, ◌+◌, ◌-◌, ◌<◌, Bool, List, [], ◌∷◌, ◌++◌, length, slice_index_or, get_or, refl, sym, ap, ◌∙◌, subst, inl, inr, arith, cases_lt, length-append, get_or_append_left, get_or-append_right, Expression, IsReached, AreStates, Placed, Grows, IsNumber, kept, AreEntries}
+use Rattle.dfa.proofs.Std.{◌≡◌, ℕ, ◌+◌, ◌-◌, ◌<◌, Bool, List, [], ◌∷◌, ◌++◌, length, slice_index_or, get_or, refl, sym, ap, ◌∙◌, subst, inl, inr, arith, cases_lt, length-append, get_or_append_left, get_or-append_right}
+use Rattle.dfa.proofs.Common.{Expression, IsReached, AreStates, Placed, Grows, IsNumber, kept, AreEntries}
 
 pub grows_none : (sets : List (List ℕ)) → Grows sets sets
 grows_none sets = record { longer = omega arith; same = λ i lt. refl }

@@ -1,5 +1,6 @@
 -- One more character moves the marks to where it can stand.
-use Rattle.dfa.proofs.Common.{◌≡◌, ℕ, zero, suc, ◌+◌, ◌-◌, ◌<◌, ◌≤◌, ◌⊎◌, Bool, true, false, ◌||◌, List, [], ◌∷◌, ◌++◌, length, slice_index_or, IsTrue, refl, sym, ap, ◌∙◌, subst, inl, inr, arith, add-one, append-nil, length-append, get_or_append_left, get_or-append_right, Expression, Literal, Class, Sequence', Choice', Star', Plus', Optional', Matches, IsJoin, is_in_class, IsCharacter, positions, Then, CanStandAt, mark, ends, literal_next, next}
+use Rattle.dfa.proofs.Std.{◌≡◌, ℕ, zero, suc, ◌+◌, ◌-◌, ◌<◌, ◌≤◌, ◌⊎◌, Bool, true, false, ◌||◌, List, [], ◌∷◌, ◌++◌, length, slice_index_or, IsTrue, refl, sym, ap, ◌∙◌, subst, inl, inr, arith, add-one, append-nil, length-append, get_or_append_left, get_or-append_right}
+use Rattle.dfa.proofs.Common.{Expression, Literal, Class, Sequence', Choice', Star', Plus', Optional', Matches, IsJoin, is_in_class, IsCharacter, positions, Then, CanStandAt, mark, ends, literal_next, next}
 use Rattle.dfa.proofs.LastPositions.{Stands, Is, then_left, then_right, sequence_first, sequence_second, sequence_cases, choice_cases}
 use Rattle.dfa.proofs.Ends.{Only, Every, InRest, rest_from, rest_to, only_rest, every_rest, only_start, every_start, only_first, every_first, only_second, every_second, only_one, every_one, only_other, every_other, Again, only_again, every_again, ends_sound, ends_complete}
 

@@ -1,5 +1,6 @@
 -- The set of positions after one more character.
-use Rattle.dfa.proofs.Common.{◌≡◌, ℕ, ◌+◌, Bool, true, List, [], ◌∷◌, ◌++◌, subst, arith, Expression, IsCharacter, StandsAt, mark, all_next, all_holders, successor, Among, IsSetOf, AreMarksOf}
+use Rattle.dfa.proofs.Std.{◌≡◌, ℕ, ◌+◌, Bool, true, List, [], ◌∷◌, ◌++◌, subst, arith}
+use Rattle.dfa.proofs.Common.{Expression, IsCharacter, StandsAt, mark, all_next, all_holders, successor, Among, IsSetOf, AreMarksOf}
 use Rattle.dfa.proofs.Sets.{among_filter, filter_among, filter_rises, same_set}
 use Rattle.dfa.proofs.HolderLists.{all_sound, all_complete, all_rise}
 use Rattle.dfa.proofs.RuleLists.{HoldsIn, marks_of_set, next_sound, next_complete, rules_nonempty}

@@ -1,5 +1,7 @@
 -- Trees say the same as the expressions that they are made of, and a part without a mark is passed over.
-use Rattle.dfa.proofs.Common.{◌≡◌, ℕ, zero, suc, ◌+◌, ◌≤◌, Bool, true, false, ◌||◌, List, [], ◌∷◌, ◌++◌, length, drop, refl, sym, ap, ◌∙◌, subst, arith, ◌<◌, get_or, All, Some, if◌then◌else◌, or_parts, append-nil, append_assoc, drop_all, length-append, Expression, Address, Tree, Position, Pair', positions, mark, literal_end, ends, literal_next, next, all_next, all_positions, first_end, AreTreesOf, all_counts, all_tree_next, count, first_tree_end, IsCounted, IsJoined, IsLiteralTree, IsTree, IsTreeOf, any_mark, listed, tree_ends, tree_next}
+use Rattle.dfa.proofs.Std.{◌≡◌, ℕ, zero, suc, ◌+◌, ◌≤◌, Bool, true, false, ◌||◌, List, [], ◌∷◌, ◌++◌, length, drop, refl, sym, ap, ◌∙◌, subst, arith, ◌<◌, get_or, All, Some, if◌then◌else◌, or_parts, append-nil, append_assoc, drop_all, length-append}
+use Rattle.dfa.proofs.Common.{Expression, Address}
+use Rattle.dfa.proofs.Common.{Tree, Position, Pair', positions, mark, literal_end, ends, literal_next, next, all_next, all_positions, first_end, AreTreesOf, all_counts, all_tree_next, count, first_tree_end, IsCounted, IsJoined, IsLiteralTree, IsTree, IsTreeOf, any_mark, listed, tree_ends, tree_next}
 use Rattle.definitions.specs.declared.expression.Expression.TheVariants as E
 use Rattle.dfa.specs.declared.tree.Tree.TheVariants.{Plus', Optional'}
 use Rattle.dfa.proofs.Steps.{length-literal_next, length-next}

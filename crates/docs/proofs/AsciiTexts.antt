@@ -1,5 +1,6 @@
 -- A text of no more bytes than characters is its bytes.
-use Rattle.docs.proofs.Common.{◌≡◌, ℕ, ◌+◌, ◌<◌, ◌≤◌, ◌⊎◌, inl, inr, Bool, true, false, List, [], ◌∷◌, length, arith, sym, subst, All, cond, encode_utf8_all, nat_lt, encode_utf8, le-ltb, len_utf8, cases_lt, length-append, All-cons, All-nil, encodes-IsAscii, len_utf8_bounds, length-encode, length-le-encodes, IsAscii-from_all}
+use Rattle.docs.proofs.Std.{◌≡◌, ℕ, ◌+◌, ◌<◌, ◌≤◌, ◌⊎◌, inl, inr, Bool, true, false, List, [], ◌∷◌, length, sym, subst, All, cond, encode_utf8_all, nat_lt, encode_utf8, len_utf8}
+use Rattle.docs.proofs.Std.{arith, le-ltb, cases_lt, length-append, All-cons, All-nil, encodes-IsAscii, len_utf8_bounds, length-encode, length-le-encodes, IsAscii-from_all}
 
 two_or_more : (b c : Bool) → 2 ≤ cond b 2 (cond c 3 4)
 two_or_more true c = omega arith

@@ -1,5 +1,13 @@
 -- What the edits of a document make, and that one answer reports it.
-use Rattle.docs.proofs.Common.{◌≡◌, ◌<◌, ◌≤◌, ℕ, zero, suc, ◌+◌, ◌-◌, List, [], ◌∷◌, ◌++◌, length, map, min, refl, sym, ap, subst, ◌∙◌, ◌⊎◌, inl, inr, ⊎_elim, Bool, true, false, arith, ◌==◌, Option, Some, None, if◌then◌else◌, cases_lt, eq-eqb, eqb-true, length-map, min-eq_left, min-eq_right, Edit, Kind, Range, Stats, Encoding, StandsIn, branches, branches_of, all_branches, changed, span, Splice, made, splice, IsKept, Built, Nothing, Kept, New, Stamped, StampedLeaf, StampedBranch, StampedForest, StampedNil, StampedCons, plain_trees, Tree, Forest, Leaf, Branch, significant_kinds, plain_token, AreMadeBy, IsMadeBy, plain_of, AreOlder, none_by, older_by, AreUpTo, before_fault, last_leaf, branches_by, branches_of_by, all_branches_by, verdict_in, stands_split, not_in_leaf, nowhere, stands_in_prefix, Child, all_trees, forest_in, forest_of, trees_of, tree_of, Doc, IsReading, IsNext, AreStats, ReportsLast, IsAbove, number_of, number_after, edit_of, last_edit, open_document, IsCurrent, LanguageData, LastEdit, plain_tree as plain}
+use Rattle.docs.proofs.Std.{◌≡◌, ◌<◌, ◌≤◌, ℕ, zero, suc, ◌+◌, ◌-◌, List, [], ◌∷◌, ◌++◌, length, map, min, refl, sym, ap, subst, ◌∙◌, ◌⊎◌, inl, inr, ⊎_elim, Bool, true, false, arith, ◌==◌, Option, Some, None, if◌then◌else◌, cases_lt, eq-eqb, eqb-true, length-map, min-eq_left, min-eq_right}
+use Rattle.docs.proofs.Common.{Edit, Kind, Range, Stats, Encoding, StandsIn, branches, branches_of, all_branches, changed, span, Splice, made, splice, IsKept, Built, Nothing, Kept, New, Stamped, StampedLeaf, StampedBranch, StampedForest, StampedNil, StampedCons, plain_trees, plain_tree as plain}
+use Rattle.docs.proofs.Common.{Tree, Forest, Leaf, Branch}
+use Rattle.docs.proofs.Common.{significant_kinds, plain_token}
+use Rattle.docs.proofs.Common.{AreMadeBy, IsMadeBy, plain_of, AreOlder, none_by, older_by, AreUpTo, before_fault, last_leaf, branches_by, branches_of_by, all_branches_by, verdict_in}
+use Rattle.docs.proofs.Common.{stands_split, not_in_leaf, nowhere, stands_in_prefix}
+use Rattle.docs.proofs.Common.{Child, all_trees, forest_in, forest_of, trees_of, tree_of}
+use Rattle.docs.proofs.Common.{IsReading, IsNext, AreStats, ReportsLast, IsAbove, number_of, number_after, edit_of, LastEdit}
+use Rattle.docs.proofs.Common.{Doc, last_edit, open_document, IsCurrent, LanguageData}
 use Rattle.definitions.specs.TreeEdits.{Token, plain_all}
 use Rattle.docs.proofs.StoredReading.{reading_of, stacked_reading, stacked_trees}
 

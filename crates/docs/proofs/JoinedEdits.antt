@@ -1,5 +1,7 @@
 -- Edits that follow each other, as one edit.
-use Rattle.docs.proofs.Common.{◌≡◌, ◌≤◌, ◌+◌, ◌-◌, ℕ, List, ◌++◌, length, take, drop, sym, ap, ◌∙◌, arith, Option, Some, None, MatchOption, refl, subst, max, append_assoc, drop-drop, drop-take, length-append, length-drop, length-take, take_at, take-append-drop, take-take, Edit, edit, drop-edit, length-edit, LeadsTo, joined, le-max_left, le-max_right, max-le, min-le_left, min-le_right}
+use Rattle.docs.proofs.Std.{◌≡◌, ◌≤◌, ◌+◌, ◌-◌, ℕ, List, ◌++◌, length, take, drop, sym, ap, ◌∙◌, Option, Some, None, MatchOption, refl, subst, max}
+use Rattle.docs.proofs.Std.{arith, append_assoc, drop-drop, drop-take, length-append, length-drop, length-take, take_at, take-append-drop, take-take, le-max_left, le-max_right, max-le, min-le_left, min-le_right}
+use Rattle.docs.proofs.Common.{Edit, edit, drop-edit, length-edit, LeadsTo, joined}
 
 -- what an edit inserts lies within the text after it
 pub inserted_within : (was now : List ℕ) (e : Edit) → LeadsTo was e now → e.at + e.inserted ≤ length now

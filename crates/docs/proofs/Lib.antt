@@ -1,4 +1,5 @@
 pub mod Common
+pub mod Std
 mod Refusals
 mod StoredReading
 mod Edits

@@ -1,5 +1,6 @@
 -- A text's refusal, passed on as a document's.
-use Rattle.docs.proofs.Common.{◌≡◌, ◌↔◌, ◌<◌, ℕ, Bool, true, false, List, length, refl, sym, ap, subst, ◌∙◌, leb-true, leb-false, Option, Err, Result, Ok, IsErrAnd, nat_le, encode_utf8_all, chars, IsUtf8, err_from_is_err_and, IsText, changed, span, Range, Encoding, IsText-chars, IsText-edit, TextFault, DocFault, TooLarge, Memory, doc_fault, fits, fits_from, too_long, spelled_large, large_from}
+use Rattle.docs.proofs.Std.{◌≡◌, ◌↔◌, ◌<◌, ℕ, Bool, true, false, List, length, refl, sym, ap, subst, ◌∙◌, leb-true, leb-false, Option, Err, Result, Ok, IsErrAnd, nat_le, encode_utf8_all, chars, IsUtf8, err_from_is_err_and}
+use Rattle.docs.proofs.Common.{IsText, changed, span, Range, Encoding, IsText-chars, IsText-edit, TextFault, DocFault, TooLarge, Memory, doc_fault, fits, fits_from, too_long, spelled_large, large_from}
 use Rattle.text.specs.declared.document.TextFault.TheVariants as text
 
 -- where a text is too large

@@ -1,5 +1,6 @@
 -- The stamps of the tokens after an edit.
-use Rattle.docs.proofs.Common.{◌≡◌, ◌≤◌, ◌-◌, ◌+◌, ℕ, List, length, take, drop, slice_range, sym, subst, ⊎_elim, arith, All, cases_lt, drop-drop, take-append-drop, All-append, All-drop, All-take, All-weaker, drop_split, Edit, Splice, kept_before, rejoin, AreStampedExactly, FileGrammar, Token, AreRescanned, plain_all, AreMadeBy, plain_of, AreOlder, KeepStamps, all_trees, forest_in, AreStamped, splice_between, Doc}
+use Rattle.docs.proofs.Std.{◌≡◌, ◌≤◌, ◌-◌, ◌+◌, ℕ, List, length, take, drop, slice_range, sym, subst, ⊎_elim, arith, All, cases_lt, drop-drop, take-append-drop, All-append, All-drop, All-take, All-weaker, drop_split}
+use Rattle.docs.proofs.Common.{Edit, Splice, kept_before, rejoin, AreStampedExactly, FileGrammar, Token, AreRescanned, plain_all, AreMadeBy, plain_of, AreOlder, KeepStamps, all_trees, forest_in, AreStamped, splice_between, Doc}
 
 -- what holds of the prefix of a list, of a part, and of what is after the part, holds of the list
 all_parts : {X : Type 0} (P : X → Type 0) (xs : List X) (a b : ℕ) → All P (take a xs) → All P (slice_range xs a b) → All P (drop b xs) → All P xs

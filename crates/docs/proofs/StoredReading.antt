@@ -1,5 +1,14 @@
 -- The tokens and the parse that are kept, and what is reported of them.
-use Rattle.docs.proofs.Common.{◌≡◌, ◌≤◌, ◌⊎◌, ◌↔◌, inl, inr, ℕ, Bool, true, false, not, cond, List, [], ◌∷◌, ◌++◌, encode_utf8_all, map, length, refl, sym, ap, subst, ◌∙◌, Option, None, option_map, Some, Vec, filter, Result, IfOk, Global, AllByRecursion, IfOk-weaker, recursion_from_All, Kind, Range, Position, Encoding, Stored, Fault, Node, AreFolds, IsSelection, AreDocumentTrees, IsNodeOf, IsVerdict, Answered, offset, Placed, is_skipped, kinds, Grammar, Tree, HaveRoots, all_kinds, FileGrammar, lexicon_of, Token, significant_kinds, kind_in, plain, is_significant, AreTokensOf, Verdict, TreeAt, FaultAt, FaultAtEnd, plain_of, AreStacked, IsParseOf, verdict_in, Sets, Cell, tree, NodeId, NodeChild, plain_tree, text_of, Child, AreFoldsOf, AreRootsOf, IsSelectionOf, placed_parts, trees_of_roots, IsDiagnosis, fault_of, Doc, IsCurrent, LanguageData, Reading, IsReading, Reads, rows, written_tree, AreSelections, IsReported}
+use Rattle.docs.proofs.Std.{◌≡◌, ◌≤◌, ◌⊎◌, ◌↔◌, inl, inr, ℕ, Bool, true, false, not, cond, List, [], ◌∷◌, ◌++◌, encode_utf8_all, map, length, refl, sym, ap, subst, ◌∙◌, Option, None, option_map, Some, Vec, filter, Result, IfOk, Global, AllByRecursion, IfOk-weaker, recursion_from_All}
+use Rattle.docs.proofs.Common.{Kind, Range, Position, Encoding, Stored, Fault, Node, AreFolds, IsSelection, AreDocumentTrees, IsNodeOf, IsVerdict, Answered, offset, Placed, is_skipped, kinds, Grammar, Tree, HaveRoots, all_kinds, plain_tree}
+use Rattle.docs.proofs.Common.{FileGrammar, lexicon_of}
+use Rattle.docs.proofs.Common.{Token, significant_kinds, kind_in, plain, is_significant, AreTokensOf}
+use Rattle.docs.proofs.Common.{Verdict, TreeAt, FaultAt, FaultAtEnd, plain_of, AreStacked, IsParseOf, verdict_in}
+use Rattle.docs.proofs.Common.{Sets}
+use Rattle.docs.proofs.Common.{Cell, tree, NodeId, NodeChild, Child}
+use Rattle.docs.proofs.Common.{text_of, AreRootsOf, trees_of_roots}
+use Rattle.docs.proofs.Common.{AreFoldsOf, IsSelectionOf, placed_parts, IsDiagnosis, fault_of, Reading, IsReading, Reads, rows, written_tree, AreSelections, IsReported}
+use Rattle.docs.proofs.Common.{Doc, IsCurrent, LanguageData}
 
 -- ---- the kinds of significant tokens
 

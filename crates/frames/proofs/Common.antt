@@ -1,29 +1,9 @@
--- What the proofs of this crate cite of definitions, of types and of other crates, passed on from one place. Declares nothing.
-pub use Rattle.std.proofs.Common.{◌%◌, ◌&&◌, ◌++◌, ◌+◌, ◌-◌, ◌/◌, ◌<◌, ◌==◌, ◌^◌, ◌||◌, ◌↔◌, ◌∙◌, ◌∷◌, ◌≡◌, ◌≢◌, ◌≤◌, ◌⊎◌, All, Any, Bool, Err, IfErr, IfOk, IfSome, IsErrOf, IsTrue, List, None, Ok, Option, Result, Some, [], add-one, ap, append-nil, append_assoc, arith, codes, cond, decimal, drop, drop-cons, false, get_or, inl, inr, is_some, length, length-append, length-drop, min, nat_eq, nat_le, nat_lt, not, option_and_then, option_map, refl, reverse, rules, subst, suc, sym, take, true, zero, ℕ}
-pub use Rattle.std.specs.Char.{digit_value, is_ascii_digit, is_ascii_whitespace}
-pub use Rattle.std.specs.Io.KnownBytes.{Appends, Keeps}
-pub use Rattle.std.specs.List.{flat_map, list_all, prefix_len, starts_with, suffix_len}
-pub use Rattle.std.specs.Option.{ok_or, option_map_or, option_or}
-pub use Rattle.std.specs.Str.{bytes_eq}
-pub use Rattle.std.specs.Str.Parse.{AllDigits, digits_value}
-pub use Rattle.std.proofs.Math.Bool.{or-false, or_assoc}
-pub use Rattle.std.proofs.Math.Nat.{pow-le-pow_right}
-pub use Rattle.std.proofs.Math.Seq.{take-add, take-append-add, take-append_seam, take-length}
-pub use Rattle.std.proofs.lemmas.Bool.{and_parts, cases_lt, le-ltb, leb-true, lt-ltb, or_parts}
-pub use Rattle.std.proofs.lemmas.Bool.Decides.{Decides-eqb}
-pub use Rattle.std.proofs.lemmas.Fmt.{decimal_digit, decimal_step, length-decimal-le}
-pub use Rattle.std.proofs.lemmas.Grind.{common_steps}
-pub use Rattle.std.proofs.lemmas.Int.Digits.{digits_value-lt, digits_value_more}
-pub use Rattle.std.proofs.lemmas.List.{drop-append-le, drop-drop, drop-take, length-take, map-append, reverse-append, take-append-drop, take-append-le, take-take, take_all, take_more_set}
-pub use Rattle.std.proofs.lemmas.List.Elements.{All-cons, All-head, All-nil, All-tail}
-pub use Rattle.std.proofs.lemmas.List.Folds.{list_all-append}
-pub use Rattle.std.proofs.lemmas.Result.{IfErr-weaker, IfOk-weaker, err_from_is_err_and}
-pub use Rattle.std.proofs.lemmas.Slice.Eq.{starts_is}
-pub use Rattle.std.proofs.lemmas.Str.Ascii.{trim_ascii_is}
-pub use Rattle.std.proofs.lemmas.Str.Parse.{digit_at, digits_value-take-le}
+-- What the proofs of this crate cite of definitions, of types and of the repository's crates, passed on from one place. Declares nothing.
 pub use Rattle.frames.specs.Contents.{contents}
 pub use Rattle.frames.specs.Frames.{BeginsWith, Continues, Faulty, GoesOn, HasSplit, IsBegun, IsCut, IsOpen, IsReached, IsStreamFault, IsTail, Open, Splits, Tail, fault_of, given, start_at, start_of, tail_of, unfinished}
-pub use Rattle.frames.specs.Header.{AreFieldLines, HaveLength, IsHeaderLength, IsHeaderPart, IsWhole, blank_line, field_fault, field_length, field_of, has_length, header_length, header_size, is_blank, is_content_length, is_content_type, is_number, is_utf8_type, is_value_byte, length_fault, length_value, line_end, line_fault, line_length, lines_length, lines_of, onto_first_line, through, trim}
+pub use Rattle.frames.specs.Header.{AreFieldLines, HaveLength, IsHeaderLength, IsHeaderPart, IsWhole}
+pub use Rattle.frames.specs.Header.{blank_line, field_fault, field_length, field_of, has_length, header_length, header_size, is_blank, is_content_length, is_content_type, is_number, is_utf8_type, is_value_byte, length_fault, length_value, line_end, line_fault, line_length, lines_length, lines_of}
+pub use Rattle.frames.specs.Header.{onto_first_line, through, trim}
 pub use Rattle.frames.specs.Kept.{Awaits, HoldsNone, IsDecoder}
 pub use Rattle.frames.specs.Write.{Writes}
 pub use Rattle.frames.specs.declared.decoder.Frame.{Frame}

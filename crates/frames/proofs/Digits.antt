@@ -1,5 +1,6 @@
 -- The number that some digits write.
-use Rattle.frames.proofs.Common.{◌≡◌, ◌-◌, ◌<◌, ◌≤◌, ◌^◌, ◌&&◌, ◌==◌, ℕ, Bool, true, not, List, [], ◌∷◌, length, take, arith, nat_le, list_all, digits_value, AllDigits, is_ascii_digit, digit_value, digits_value-lt, digits_value-take-le, leb-true, pow-le-pow_right, common_steps, is_number, and_parts}
+use Rattle.frames.proofs.Std.{◌≡◌, ◌-◌, ◌<◌, ◌≤◌, ◌^◌, ◌&&◌, ◌==◌, ℕ, Bool, true, not, List, [], ◌∷◌, length, take, arith, nat_le, list_all, digits_value, AllDigits, is_ascii_digit, digit_value, digits_value-lt, digits_value-take-le, leb-true, pow-le-pow_right, common_steps, and_parts}
+use Rattle.frames.proofs.Common.{is_number}
 
 both_of_three : (a b c : Bool) → (a && b && c) ≡ true → (b ≡ true) × (c ≡ true)
 both_of_three a b c h = let p = and_parts (a && b) c h in ((and_parts a b p.0).1, p.1)

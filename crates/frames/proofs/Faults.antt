@@ -1,5 +1,6 @@
 -- The faults of header parts, and the lengths that they give.
-use Rattle.frames.proofs.Common.{◌≡◌, ◌≤◌, ◌-◌, ◌&&◌, ℕ, Bool, true, false, not, List, [], ◌∷◌, length, take, refl, sym, subst, Option, Some, None, is_some, option_and_then, cond, Result, Ok, Err, IfSome, IfOk, IfErr, nat_le, ok_or, option_or, option_map_or, digits_value, leb-true, FrameFault, BadField, NoLength, BadCharset, LongHeader, is_content_length, is_content_type, is_utf8_type, is_number, length_value, length_fault, field_fault, field_length, line_fault, line_length, field_of, lines_of, lines_length, header_length, IsStreamFault}
+use Rattle.frames.proofs.Std.{◌≡◌, ◌≤◌, ◌-◌, ◌&&◌, ℕ, Bool, true, false, not, List, [], ◌∷◌, length, take, refl, sym, subst, Option, Some, None, is_some, option_and_then, cond, Result, Ok, Err, IfSome, IfOk, IfErr, nat_le, ok_or, option_or, option_map_or, digits_value, leb-true}
+use Rattle.frames.proofs.Common.{FrameFault, BadField, NoLength, BadCharset, LongHeader, is_content_length, is_content_type, is_utf8_type, is_number, length_value, length_fault, field_fault, field_length, line_fault, line_length, field_of, lines_of, lines_length, header_length, IsStreamFault}
 
 pub long_header : IsStreamFault LongHeader
 long_header = ((λ e. cc), (λ e. cc))

@@ -1,5 +1,7 @@
 -- The lines that CR LF ends are the field lines of a header part.
-use Rattle.frames.proofs.Common.{◌≡◌, ◌-◌, ℕ, Bool, true, false, List, [], ◌∷◌, ◌++◌, length, take, drop, refl, ap, sym, ◌∙◌, arith, append_assoc, length-append, inl, inr, Option, Some, None, nat_eq, cond, All, starts_with, flat_map, Decides-eqb, starts_is, take-append-drop, length-take, All-nil, All-cons, All-head, All-tail, take-append_seam, through, line_end, onto_first_line, lines_of, IsWhole, AreFieldLines}
+use Rattle.frames.proofs.Std.{◌≡◌, ◌-◌, ℕ, Bool, true, false, List, [], ◌∷◌, ◌++◌, length, take, drop, refl, ap, sym, ◌∙◌, inl, inr, Option, Some, None, nat_eq, cond, All, starts_with, flat_map}
+use Rattle.frames.proofs.Std.{arith, append_assoc, length-append, Decides-eqb, starts_is, take-append-drop, length-take, All-nil, All-cons, All-head, All-tail, take-append_seam}
+use Rattle.frames.proofs.Common.{through, line_end, onto_first_line, lines_of, IsWhole, AreFieldLines}
 use Rattle.frames.proofs.PrefixDecides.{through_stays, through_bounds}
 use Rattle.frames.proofs.Lines.{first_line, no_line, none_at}
 

@@ -1,5 +1,7 @@
 -- What field lines give: the first faulty one decides, or else the one `Content-Length`.
-use Rattle.frames.proofs.Common.{◌≡◌, ◌||◌, ◌-◌, length, take, arith, ℕ, zero, suc, Bool, true, false, List, [], ◌∷◌, ◌++◌, refl, ap, sym, subst, ◌∙◌, inl, inr, ◌⊎◌, Option, Some, None, is_some, cond, Result, Ok, Err, Any, ◌↔◌, option_and_then, ok_or, option_or, option_map_or, or_assoc, or-false, FrameFault, NoLength, SecondLength, BadField, is_content_length, length_value, field_of, field_length, field_fault, line_fault, line_length, lines_of, lines_length, has_length, HaveLength, IsWhole, IsHeaderLength, header_length, or_parts}
+use Rattle.frames.proofs.Std.{◌≡◌, ◌||◌, ◌-◌, length, take, ℕ, zero, suc, Bool, true, false, List, [], ◌∷◌, ◌++◌, refl, ap, sym, subst, ◌∙◌, inl, inr, ◌⊎◌, Option, Some, None, is_some, cond, Result, Ok, Err, Any, ◌↔◌, option_and_then, ok_or, option_or, option_map_or}
+use Rattle.frames.proofs.Std.{arith, or_assoc, or-false, or_parts}
+use Rattle.frames.proofs.Common.{FrameFault, NoLength, SecondLength, BadField, is_content_length, length_value, field_of, field_length, field_fault, line_fault, line_length, lines_of, lines_length, has_length, HaveLength, IsWhole, IsHeaderLength, header_length}
 use Rattle.frames.proofs.FieldLines.{has_field_lines, field_lines_are}
 
 -- no line is faulty, by whether a length was given before them

@@ -1,5 +1,7 @@
 -- The header part that is computed is the shortest prefix that is a whole one.
-use Rattle.frames.proofs.Common.{◌≡◌, ◌≢◌, ◌+◌, ◌≤◌, ℕ, suc, Bool, true, false, List, [], ◌∷◌, ◌++◌, length, take, drop, refl, ap, sym, ◌∙◌, arith, length-append, append_assoc, inl, inr, Option, Some, None, option_map, nat_eq, cond, ◌↔◌, starts_with, Decides-eqb, cases_lt, starts_is, take-append-drop, length-take, take-append_seam, through, header_size, line_end, blank_line, IsWhole, IsHeaderPart}
+use Rattle.frames.proofs.Std.{◌≡◌, ◌≢◌, ◌+◌, ◌≤◌, ℕ, suc, Bool, true, false, List, [], ◌∷◌, ◌++◌, length, take, drop, refl, ap, sym, ◌∙◌, inl, inr, Option, Some, None, option_map, nat_eq, cond, ◌↔◌, starts_with}
+use Rattle.frames.proofs.Std.{arith, length-append, append_assoc, Decides-eqb, cases_lt, starts_is, take-append-drop, length-take, take-append_seam}
+use Rattle.frames.proofs.Common.{through, header_size, line_end, blank_line, IsWhole, IsHeaderPart}
 use Rattle.frames.proofs.PrefixDecides.{at_step, size_step, size_bound}
 
 -- a prefix that is found ends with the needle

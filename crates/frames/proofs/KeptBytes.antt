@@ -1,5 +1,6 @@
 -- What is kept of the bytes after the whole frames.
-use Rattle.frames.proofs.Common.{◌≡◌, ◌≢◌, ◌<◌, ◌≤◌, ℕ, List, [], ◌++◌, length, refl, ap, sym, subst, ◌∙◌, arith, append_assoc, append-nil, Option, None, Result, IfErr, IfSome, IsErrOf, take-append-le, FrameFault, NeedsMore, through, blank_line, Tail, Open, Faulty, IsTail, IsBegun, IsReached, IsOpen, start_of, tail_of, fault_of, Continues, Splits, Awaits, HoldsNone, IsDecoder}
+use Rattle.frames.proofs.Std.{◌≡◌, ◌≢◌, ◌<◌, ◌≤◌, ℕ, List, [], ◌++◌, length, refl, ap, sym, subst, ◌∙◌, arith, append_assoc, append-nil, Option, None, Result, IfErr, IfSome, IsErrOf, take-append-le}
+use Rattle.frames.proofs.Common.{FrameFault, NeedsMore, through, blank_line, Tail, Open, Faulty, IsTail, IsBegun, IsReached, IsOpen, start_of, tail_of, fault_of, Continues, Splits, Awaits, HoldsNone, IsDecoder}
 
 -- no frame is whole in no bytes
 pub awaits_none : (rest : List ℕ) → Awaits rest 0

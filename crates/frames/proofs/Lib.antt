@@ -1,4 +1,5 @@
 pub mod Common
+pub mod Std
 mod Digits
 mod FirstNeedle
 mod Rest

@@ -1,5 +1,6 @@
 -- The lines that CR LF ends.
-use Rattle.frames.proofs.Common.{◌≡◌, ◌-◌, ◌≤◌, ℕ, suc, Bool, true, false, List, [], ◌∷◌, take, drop, refl, ap, sym, ◌∙◌, arith, inl, inr, Option, Some, None, option_map, is_some, nat_eq, cond, Result, Ok, Err, ok_or, option_or, option_map_or, starts_with, FrameFault, NoLength, through, line_end, line_fault, line_length, onto_first_line, lines_of, lines_length}
+use Rattle.frames.proofs.Std.{◌≡◌, ◌-◌, ◌≤◌, ℕ, suc, Bool, true, false, List, [], ◌∷◌, take, drop, refl, ap, sym, ◌∙◌, arith, inl, inr, Option, Some, None, option_map, is_some, nat_eq, cond, Result, Ok, Err, ok_or, option_or, option_map_or, starts_with}
+use Rattle.frames.proofs.Common.{FrameFault, NoLength, through, line_end, line_fault, line_length, onto_first_line, lines_of, lines_length}
 use Rattle.frames.proofs.PrefixDecides.{at_step, through_bounds}
 
 -- a line goes on after a byte

@@ -1,5 +1,6 @@
 -- A stream that goes on.
-use Rattle.frames.proofs.Common.{◌≡◌, ◌≢◌, ◌+◌, ◌<◌, ◌≤◌, ℕ, zero, suc, List, [], ◌∷◌, ◌++◌, length, take, drop, refl, ap, sym, subst, ◌∙◌, arith, length-drop, append-nil, inl, inr, min, take-append-le, drop-append-le, length-take, cases_lt, Start, NeedsMore, Fails, Announces, FrameFault, Tail, Open, Faulty, Splits, BeginsWith, IsTail, IsBegun, HasSplit, start_of, Continues, GoesOn}
+use Rattle.frames.proofs.Std.{◌≡◌, ◌≢◌, ◌+◌, ◌<◌, ◌≤◌, ℕ, zero, suc, List, [], ◌∷◌, ◌++◌, length, take, drop, refl, ap, sym, subst, ◌∙◌, arith, length-drop, append-nil, inl, inr, min, take-append-le, drop-append-le, length-take, cases_lt}
+use Rattle.frames.proofs.Common.{Start, NeedsMore, Fails, Announces, FrameFault, Tail, Open, Faulty, Splits, BeginsWith, IsTail, IsBegun, HasSplit, start_of, Continues, GoesOn}
 use Rattle.frames.proofs.PrefixDecides.{start_stays, start_within, start_low}
 
 -- a frame lies within the bytes

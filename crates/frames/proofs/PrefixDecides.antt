@@ -1,5 +1,7 @@
 -- What the first bytes say, they say whatever follows.
-use Rattle.frames.proofs.Common.{◌≡◌, ◌≢◌, ◌+◌, ◌-◌, ◌≤◌, ℕ, suc, Bool, true, false, List, [], ◌∷◌, ◌++◌, length, take, drop, refl, ap, sym, subst, ◌∙◌, arith, length-append, append-nil, inl, inr, ◌⊎◌, Option, Some, None, option_map, nat_eq, nat_lt, cond, Result, Ok, Err, IfSome, starts_with, bytes_eq, Decides-eqb, starts_is, take-append-le, take_all, length-take, take-append-add, cases_lt, lt-ltb, le-ltb, FrameFault, LongHeader, NeedsMore, Fails, Announces, through, header_size, header_length, line_end, blank_line, Tail, Open, Faulty, start_of, start_at, given, tail_of, fault_of, IsBegun, IsTail, IsReached, IsStreamFault, Awaits}
+use Rattle.frames.proofs.Std.{◌≡◌, ◌≢◌, ◌+◌, ◌-◌, ◌≤◌, ℕ, suc, Bool, true, false, List, [], ◌∷◌, ◌++◌, length, take, drop, refl, ap, sym, subst, ◌∙◌, inl, inr, ◌⊎◌, Option, Some, None, option_map, nat_eq, nat_lt, cond, Result, Ok, Err, IfSome, starts_with, bytes_eq}
+use Rattle.frames.proofs.Std.{arith, length-append, append-nil, Decides-eqb, starts_is, take-append-le, take_all, length-take, take-append-add, cases_lt, lt-ltb, le-ltb}
+use Rattle.frames.proofs.Common.{FrameFault, LongHeader, NeedsMore, Fails, Announces, through, header_size, header_length, line_end, blank_line, Tail, Open, Faulty, start_of, start_at, given, tail_of, fault_of, IsBegun, IsTail, IsReached, IsStreamFault, Awaits}
 use Rattle.frames.proofs.Faults.{long_header, header_faults}
 
 -- a text with the needle at its start is as long

@@ -1,5 +1,7 @@
 -- Bytes that were searched for a blank line aren't searched again.
-use Rattle.frames.proofs.Common.{◌≡◌, ◌≢◌, ◌+◌, ◌-◌, ◌<◌, ◌≤◌, ℕ, Bool, true, false, List, [], ◌∷◌, ◌++◌, length, take, drop, refl, ap, sym, ◌∙◌, arith, length-append, append_assoc, inl, inr, Option, Some, None, Result, Ok, Err, is_some, IsTrue, not, nat_eq, cond, starts_with, cases_lt, lt-ltb, le-ltb, take-append-drop, drop-append-le, length-take, take_all, take-take, drop-take, take-length, through, header_size, header_length, line_end, blank_line, FrameFault, LongHeader, NeedsMore, Fails, start_of, start_at, unfinished, given, HoldsNone}
+use Rattle.frames.proofs.Std.{◌≡◌, ◌≢◌, ◌+◌, ◌-◌, ◌<◌, ◌≤◌, ℕ, Bool, true, false, List, [], ◌∷◌, ◌++◌, length, take, drop, refl, ap, sym, ◌∙◌, inl, inr, Option, Some, None, Result, Ok, Err, is_some, IsTrue, not, nat_eq, cond, starts_with}
+use Rattle.frames.proofs.Std.{arith, length-append, append_assoc, cases_lt, lt-ltb, le-ltb, take-append-drop, drop-append-le, length-take, take_all, take-take, drop-take, take-length}
+use Rattle.frames.proofs.Common.{through, header_size, header_length, line_end, blank_line, FrameFault, LongHeader, NeedsMore, Fails, start_of, start_at, unfinished, given, HoldsNone}
 use Rattle.frames.proofs.PrefixDecides.{through_bounds}
 use Rattle.frames.proofs.HeaderPart.{through_ends, finds, blank_line_found, none_step}
 

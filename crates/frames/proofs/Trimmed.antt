@@ -1,5 +1,6 @@
 -- A value has no white space but spaces and tabs.
-use Rattle.frames.proofs.Common.{◌≡◌, ◌+◌, ◌-◌, ◌&&◌, ℕ, true, List, [], ◌∷◌, ◌++◌, length, take, drop, refl, ap, sym, ◌∙◌, arith, cond, reverse, list_all, prefix_len, suffix_len, is_ascii_whitespace, take-append-drop, reverse-append, list_all-append, common_steps, is_value_byte, is_blank, trim, and_parts}
+use Rattle.frames.proofs.Std.{◌≡◌, ◌+◌, ◌-◌, ◌&&◌, ℕ, true, List, [], ◌∷◌, ◌++◌, length, take, drop, refl, ap, sym, ◌∙◌, arith, cond, reverse, list_all, prefix_len, suffix_len, is_ascii_whitespace, take-append-drop, reverse-append, list_all-append, common_steps, and_parts}
+use Rattle.frames.proofs.Common.{is_value_byte, is_blank, trim}
 
 blank_agrees : (b : ℕ) → is_value_byte b ≡ true → is_ascii_whitespace b ≡ is_blank b
 blank_agrees b h = grind (arith, common_steps)

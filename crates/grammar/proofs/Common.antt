@@ -1,23 +1,4 @@
--- What the proofs of this crate cite of definitions, of types and of other crates, passed on from one place. Declares nothing.
-pub use Rattle.std.proofs.Common.{◌&&◌, ◌*◌, ◌++◌, ◌+◌, ◌<◌, ◌==◌, ◌||◌, ◌↔◌, ◌∙◌, ◌∷◌, ◌≡◌, ◌≢◌, ◌≤◌, ◌⊎◌, All, Bool, Bor, Err, IfErr, IfOk, List, None, Ok, Result, Some, [], ap, append-nil, append_assoc, arith, chars, cond, drop, eq-eqb, false, get_or, if◌then◌else◌, inl, inr, length, length-append, map, not, refl, replicate, set, slice_get, slice_index_or, subst, suc, sym, take, tests, true, zero, ℕ}
-pub use Rattle.std.specs.Prelude.{Option, codes, filter, nat_lt, unwrap_or}
-pub use Rattle.std.specs.Cmp.Lexicographic.{pointwise}
-pub use Rattle.std.specs.List.{cons_option, enumerate_from, filter_map, flat_map, fold, list_all, list_any, prefix_len, sum_by}
-pub use Rattle.std.specs.Str.{bytes_eq}
-pub use Rattle.std.specs.Str.Lines.{lines}
-pub use Rattle.std.proofs.Math.Bool.{or-true}
-pub use Rattle.std.proofs.lemmas.Bool.{and_from, and_parts, both_ways, cases_lt, not-false, or_cases, or_left, or_parts, or_right}
-pub use Rattle.std.proofs.lemmas.Bool.Decides.{nat_tests}
-pub use Rattle.std.proofs.lemmas.Grind.{common_steps, get_or-set_at}
-pub use Rattle.std.proofs.lemmas.Iterator.{YieldsList-from_slice}
-pub use Rattle.std.proofs.lemmas.Iterator.Search.{any_from_yields_List}
-pub use Rattle.std.proofs.lemmas.List.{get_or-set_other, get_or-set_same, get_or_past, length-map, length-replicate, length-set, map-append, take_all, take_more}
-pub use Rattle.std.proofs.lemmas.List.Elements.{All-cons, All-nil, filter_map-append}
-pub use Rattle.std.proofs.lemmas.List.Folds.{list_any-append, list_any_at}
-pub use Rattle.std.proofs.lemmas.List.Sums.{fold-append, sum_by-set}
-pub use Rattle.std.proofs.lemmas.Option.{IfSome_then, get_or_from_slice_get, slice_get_read, slice_get_within}
-pub use Rattle.std.proofs.lemmas.Result.{err_from_is_err_and}
-pub use Rattle.std.proofs.lemmas.Slice.Eq.{bytes_eq-Decides}
+-- What the proofs of this crate cite of definitions, of types and of the repository's crates, passed on from one place. Declares nothing.
 pub use Rattle.definitions.specs.Answers.{kind_name}
 pub use Rattle.definitions.specs.Sentences.{IsProductive, IsUsed, On_right, The_start}
 pub use Rattle.definitions.specs.Trees.{AreTrees, Branch, Cons, Forest, Grammar, HasDistinctProductions, HasProduction, IsTree, Leaf, Nil, Production as Production', Tree}
@@ -41,7 +22,8 @@ pub use Rattle.grammar_file.proofs.Splits.{length-texts, productions_more, said_
 pub use Rattle.grammar_file.proofs.TestedItems.{list_any-map}
 pub use Rattle.grammar_file.specs.Causes.{Reports}
 pub use Rattle.grammar_file.specs.Contents.{ProductionLine, RuleLine, as_production, as_rule, as_start, defined, defined_after, defines, is_among, nonterminals, number_of, productions, rules, starts, with_name}
-pub use Rattle.grammar_file.specs.Faults.{AreFaultless, Cause, DefinedTwice, HasPattern, HasPatternFault, HaveReferents, IsFaultless, IsFileFault, IsLineFault, IsWhole, NotANonterminal, Unproductive, cause_if, early_fault, first_line, has_production, has_rule, is_production, is_skip_rule, line, no_start, or_else, reference, reference_fault, reserved, right_fault, symbol_fault, too_large}
+pub use Rattle.grammar_file.specs.Faults.{AreFaultless, Cause, DefinedTwice, HasPattern, HasPatternFault, HaveReferents, IsFaultless, IsFileFault, IsLineFault, IsWhole, NotANonterminal, Unproductive}
+pub use Rattle.grammar_file.specs.Faults.{cause_if, early_fault, first_line, has_production, has_rule, is_production, is_skip_rule, line, no_start, or_else, reference, reference_fault, reserved, right_fault, symbol_fault, too_large}
 pub use Rattle.grammar_file.specs.Kept.{AreFew, AreNames, ArePatterns, IsWrittenOut, lines_view, rule_line, statement_of, with_left, with_rule}
 pub use Rattle.grammar_file.specs.WrittenOut.{added, marked, right_sides, written_out}
 pub use Rattle.grammar_file.specs.declared.fault.GrammarFault.{GrammarFault}

@@ -1,5 +1,10 @@
 -- The grammar of a file without a fault.
-use Rattle.grammar.proofs.Common.{slice_get_within, get_or_from_slice_get, AreNotes, AreWithin, Symbol, Nonterminal, Production', Cause, GrammarFault, Numbered, File, Word, Statement, statements, flat_map, RuleLine, productions, nonterminals, defined, added, marked, written_out, production_of, grammar_of, IsWhole, HaveReferents, IsFileFault, Unproductive, IsFirstProduction, IsFault, file_fault, unproductive, FileGrammar, IsGrammar, IsUsable, AreBelow, AllProductiveIn, IsUnproductiveIn, grammar_with, file_grammar, IsGrammarOf, Names, texts, lines_view, AreNames, ArePatterns, IsWrittenOut, Parts, AreParts, AreProductive, IsUnproductive, Reports, IfSome_then, length-texts, ◌≡◌, ℕ, ◌<◌, List, refl, ap, sym, ◌∙◌, length, arith, subst, Bor, Some, Result, Ok, Err, IfOk, IfErr, map, slice_get}
+use Rattle.grammar.proofs.Std.{slice_get_within, get_or_from_slice_get, flat_map, IfSome_then, ◌≡◌, ℕ, ◌<◌, List, refl, ap, sym, ◌∙◌, length, arith, subst, Bor, Some, Result, Ok, Err, IfOk, IfErr, map, slice_get}
+use Rattle.grammar.proofs.Common.{AreNotes, AreWithin, production_of, grammar_of, IsFirstProduction, IsFault, file_fault, unproductive, FileGrammar, IsGrammar, IsUsable, AreBelow, AllProductiveIn, IsUnproductiveIn, grammar_with, file_grammar, IsGrammarOf, Parts}
+use Rattle.grammar.proofs.Common.{AreParts, AreProductive, IsUnproductive}
+use Rattle.grammar.proofs.Common.{Cause, GrammarFault, Numbered, File, RuleLine, productions, nonterminals, defined, added, marked, written_out, IsWhole, HaveReferents, IsFileFault, Unproductive, Names, lines_view, AreNames, ArePatterns, IsWrittenOut, Reports, length-texts}
+use Rattle.grammar.proofs.Common.{Word, Statement, statements, texts}
+use Rattle.grammar.proofs.Common.{Symbol, Nonterminal, Production'}
 use Rattle.grammar.proofs.NumbersInRange.{known}
 use Rattle.grammar.proofs.Ranges.{lefts_below, is_grammar}
 use Rattle.grammar.proofs.WrittenOut.{rules_written, few_nonterminals, few_productions, are_once, plain_lefts, are_fine, are_short, start_in}

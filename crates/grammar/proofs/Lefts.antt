@@ -1,5 +1,7 @@
 -- The productions of a nonterminal.
-use Rattle.grammar.proofs.Common.{◌≡◌, ℕ, zero, suc, ◌<◌, Bool, true, false, ◌&&◌, ◌||◌, List, [], ◌∷◌, ◌++◌, refl, ap, sym, ◌∙◌, length, get_or, arith, Bor, eq-eqb, if◌then◌else◌, Some, map, slice_get, list_any, fold, cons_option, bytes_eq, list_any-append, list_any_at, slice_get_within, get_or_from_slice_get, Statement, Line, Nothing, ProductionLine, as_production, productions, nonterminals, with_name, is_among, is_production_of, texts}
+use Rattle.grammar.proofs.Std.{◌≡◌, ℕ, zero, suc, ◌<◌, Bool, true, false, ◌&&◌, ◌||◌, List, [], ◌∷◌, ◌++◌, refl, ap, sym, ◌∙◌, length, get_or, Bor, if◌then◌else◌, Some, map, slice_get, list_any, fold, cons_option, bytes_eq}
+use Rattle.grammar.proofs.Std.{arith, eq-eqb, list_any-append, list_any_at, slice_get_within, get_or_from_slice_get}
+use Rattle.grammar.proofs.Common.{Statement, Line, Nothing, ProductionLine, as_production, productions, nonterminals, with_name, is_among, is_production_of, texts}
 
 pub bytes_eq_same : (w : List ℕ) → bytes_eq w w ≡ true
 bytes_eq_same [] = refl

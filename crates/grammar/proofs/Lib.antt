@@ -1,4 +1,5 @@
 pub mod Common
+pub mod Std
 pub mod NonterminalMarks
 pub mod Lefts
 pub mod Numbered

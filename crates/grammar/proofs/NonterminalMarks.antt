@@ -1,5 +1,7 @@
 -- What marks at nonterminals mean.
-use Rattle.grammar.proofs.Common.{◌≡◌, ◌≢◌, ℕ, ◌+◌, ◌<◌, Bool, true, false, ◌&&◌, List, [], ◌∷◌, ◌++◌, refl, ap, sym, ◌∙◌, length, take, get_or, set, arith, subst, inl, inr, ◌⊎◌, not, slice_get, slice_index_or, sum_by, take_more, get_or-set_other, sum_by-set, nat_tests, Token, Invalid, Symbol, Terminal, Nonterminal, Grammar, Tree, Forest, Leaf, Branch, Nil, Cons, IsTree, AreTrees, IsProductive, is_marked, are_marked, is_ready, IsClosed, IsNext, AreBelow, AreSound, AreComplete, IsFirstUnmarked, IsUnproductiveIn, push_at, and_parts, Production' as Production}
+use Rattle.grammar.proofs.Std.{◌≡◌, ◌≢◌, ℕ, ◌+◌, ◌<◌, Bool, true, false, ◌&&◌, List, [], ◌∷◌, ◌++◌, refl, ap, sym, ◌∙◌, length, take, get_or, set, arith, subst, inl, inr, ◌⊎◌, not, slice_get, slice_index_or, sum_by, take_more, get_or-set_other, sum_by-set, nat_tests, and_parts}
+use Rattle.grammar.proofs.Common.{Token, Invalid, Symbol, Terminal, Nonterminal, Grammar, Tree, Forest, Leaf, Branch, Nil, Cons, IsTree, AreTrees, IsProductive, Production' as Production}
+use Rattle.grammar.proofs.Common.{is_marked, are_marked, is_ready, IsClosed, IsNext, AreBelow, AreSound, AreComplete, IsFirstUnmarked, IsUnproductiveIn, push_at}
 
 -- how many have no mark
 abbrev pub weight : Bool → ℕ

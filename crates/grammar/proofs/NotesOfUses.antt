@@ -1,5 +1,6 @@
 -- Rules that are used, and what is noted of a list of symbols.
-use Rattle.grammar.proofs.Common.{◌≡◌, ◌↔◌, ℕ, suc, ◌+◌, ◌<◌, ◌==◌, Bool, true, false, ◌&&◌, ◌||◌, List, [], ◌∷◌, ◌++◌, refl, ap, sym, ◌∙◌, length, take, get_or, arith, subst, Some, slice_get, slice_index_or, list_any, nat_tests, take_more, list_any-append, Symbol, Terminal, Nonterminal, Grammar, IsUsed, The_start, On_right, FileGrammar, AreNotes, none, noted_symbol, skipped, used, is_skip, is_rule, AreUsed, and_from, and_parts, or_right, Production' as Production}
+use Rattle.grammar.proofs.Std.{◌≡◌, ◌↔◌, ℕ, suc, ◌+◌, ◌<◌, ◌==◌, Bool, true, false, ◌&&◌, ◌||◌, List, [], ◌∷◌, ◌++◌, refl, ap, sym, ◌∙◌, length, take, get_or, arith, subst, Some, slice_get, slice_index_or, list_any, nat_tests, take_more, list_any-append, and_from, and_parts, or_right}
+use Rattle.grammar.proofs.Common.{Symbol, Terminal, Nonterminal, Grammar, IsUsed, The_start, On_right, FileGrammar, AreNotes, none, noted_symbol, skipped, used, is_skip, is_rule, AreUsed, Production' as Production}
 use Rattle.grammar.specs.Notes.{has_rule}
 use Rattle.grammar.proofs.Numbered.{any_at}
 use Rattle.grammar.proofs.UsedMarks.{used_right}

@@ -1,5 +1,10 @@
 -- The numbers of names, and that different names and productions have different ones.
-use Rattle.grammar.proofs.Common.{◌≡◌, ◌⊎◌, inl, inr, ℕ, zero, suc, ◌+◌, ◌<◌, Bool, true, false, not, ◌&&◌, ◌||◌, cond, List, [], ◌∷◌, refl, ap, sym, ◌∙◌, length, arith, subst, Some, None, map, take, slice_get, nat_lt, unwrap_or, Option, list_any, filter_map, cons_option, prefix_len, nat_tests, bytes_eq, pointwise, bytes_eq-Decides, slice_get_within, get_or_from_slice_get, list_any_at, cases_lt, Terminal, Nonterminal, HasDistinctProductions, Word, plain, Statement, Line, Nothing, Production, Rule, Start, Fold, Bad, ProductionLine, as_production, productions, nonterminals, is_among, number_of, rule_names, symbol_of, production_of, grammar_of, AreFaultless, early_fault, has_production, is_production, has_rule, or_else, cause_if, reserved, Cause, DefinedTwice, or_parts}
+use Rattle.grammar.proofs.Std.{◌≡◌, ◌⊎◌, inl, inr, ℕ, zero, suc, ◌+◌, ◌<◌, Bool, true, false, not, ◌&&◌, ◌||◌, cond, List, [], ◌∷◌, refl, ap, sym, ◌∙◌, length, subst, Some, None, map, take, slice_get, nat_lt, unwrap_or, Option, list_any, filter_map, cons_option, prefix_len, bytes_eq, pointwise}
+use Rattle.grammar.proofs.Std.{arith, nat_tests, bytes_eq-Decides, slice_get_within, get_or_from_slice_get, list_any_at, cases_lt, or_parts}
+use Rattle.grammar.proofs.Common.{Terminal, Nonterminal, HasDistinctProductions}
+use Rattle.grammar.proofs.Common.{Word, plain, Statement, Line, Nothing, Production, Rule, Start, Fold, Bad}
+use Rattle.grammar.proofs.Common.{ProductionLine, as_production, productions, nonterminals, is_among, number_of, AreFaultless, early_fault, has_production, is_production, has_rule, or_else, cause_if, reserved, Cause, DefinedTwice}
+use Rattle.grammar.proofs.Common.{rule_names, symbol_of, production_of, grammar_of}
 use Rattle.grammar.proofs.Lefts.{bytes_eq_same}
 
 pub same_bytes : (v w : Word) → bytes_eq v w ≡ true → v ≡ w

@@ -1,5 +1,7 @@
 -- The numbers of what a file defines are in range.
-use Rattle.grammar.proofs.Common.{◌≡◌, ℕ, ◌<◌, ◌≤◌, Bool, true, false, if◌then◌else◌, List, [], ◌∷◌, ◌++◌, refl, ap, sym, ◌∙◌, length, arith, append_assoc, length-append, Some, None, map, All, chars, cons_option, fold, length-map, map-append, All-nil, All-cons, filter_map-append, fold-append, Symbol, Terminal, Nonterminal, Expression, Word, Statement, Line, Production, Rule, as_rule, as_production, productions, nonterminals, is_among, with_name, defines, defined_after, defined, rule_names, IsKnown, grammar_with, with_rule, with_left, rules-step, nonterminals-step, rules}
+use Rattle.grammar.proofs.Std.{◌≡◌, ℕ, ◌<◌, ◌≤◌, Bool, true, false, if◌then◌else◌, List, [], ◌∷◌, ◌++◌, refl, ap, sym, ◌∙◌, length, arith, append_assoc, length-append, Some, None, map, All, chars, cons_option, fold, length-map, map-append, All-nil, All-cons, filter_map-append, fold-append}
+use Rattle.grammar.proofs.Common.{Symbol, Terminal, Nonterminal, Expression}
+use Rattle.grammar.proofs.Common.{Word, Statement, Line, Production, Rule, as_rule, as_production, productions, nonterminals, is_among, with_name, defines, defined_after, defined, rule_names, IsKnown, grammar_with, with_rule, with_left, rules-step, nonterminals-step, rules}
 
 more_rules : (xs ys : List Statement) → length (rules xs) ≤ length (rules (xs ++ ys))
 more_rules xs ys = omega (arith, ap length (filter_map-append (λ s. as_rule s.says) xs ys), length-append (rules xs) (rules ys))

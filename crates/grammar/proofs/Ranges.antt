@@ -1,5 +1,10 @@
 -- The numbers of a file's names are in range.
-use Rattle.grammar.proofs.Common.{◌≡◌, inl, inr, ℕ, zero, suc, ◌<◌, ◌≤◌, Bool, true, false, ◌&&◌, ◌||◌, List, [], ◌∷◌, ◌++◌, refl, ap, sym, ◌∙◌, length, arith, subst, if◌then◌else◌, not, nat_lt, Some, None, map, slice_get, slice_index_or, All, chars, list_any, fold, bytes_eq, list_any-append, Symbol, Nonterminal, length-map, All-nil, All-cons, Expression, HasProduction, IsProductive, FileGrammar, IsUsable, IsKnown, IsGrammar, AreBelow, grammar_with, ArePatterns, Word, plain, Statement, Line, Nothing, Production, Rule, Start, Fold, Bad, RuleLine, ProductionLine, as_production, as_start, productions, starts, nonterminals, with_name, is_among, number_of, first_of, rule_names, symbol_of, production_of, is_fold, grammar_of, HaveReferents, symbol_fault, right_fault, reference_fault, NotANonterminal, is_skip_rule, has_rule, list_any-map, not-false, or-true, or_parts, rules}
+use Rattle.grammar.proofs.Std.{◌≡◌, inl, inr, ℕ, zero, suc, ◌<◌, ◌≤◌, Bool, true, false, ◌&&◌, ◌||◌, List, [], ◌∷◌, ◌++◌, refl, ap, sym, ◌∙◌, length, subst, if◌then◌else◌, not, nat_lt, Some, None, map, slice_get, slice_index_or, All, chars, list_any, fold, bytes_eq}
+use Rattle.grammar.proofs.Std.{arith, list_any-append, length-map, All-nil, All-cons, not-false, or-true, or_parts}
+use Rattle.grammar.proofs.Common.{Symbol, Nonterminal, Expression, HasProduction, IsProductive}
+use Rattle.grammar.proofs.Common.{FileGrammar, IsUsable, IsKnown, IsGrammar, AreBelow, grammar_with, first_of, rule_names, symbol_of, production_of, is_fold, grammar_of}
+use Rattle.grammar.proofs.Common.{ArePatterns, RuleLine, ProductionLine, as_production, as_start, productions, starts, nonterminals, with_name, is_among, number_of, HaveReferents, symbol_fault, right_fault, reference_fault, NotANonterminal, is_skip_rule, has_rule, list_any-map, rules}
+use Rattle.grammar.proofs.Common.{Word, plain, Statement, Line, Nothing, Production, Rule, Start, Fold, Bad}
 use Rattle.grammar.proofs.Lefts.{bytes_eq_same}
 use Rattle.grammar.proofs.Numbered.{AllNamed, AreNamed, AreOnce, comes_from, says_production, not_shown, number_below, number_at, nonterminal_is, terminal_is, IsMadeFrom, made_from, distinct}
 

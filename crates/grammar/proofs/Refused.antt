@@ -1,5 +1,8 @@
 -- A text with a fault is no grammar's file.
-use Rattle.grammar.proofs.Common.{◌≡◌, inl, inr, ℕ, List, [], ◌∷◌, ◌++◌, refl, ap, ◌∙◌, length, take, arith, subst, Option, Some, None, Result, Ok, Err, IfErr, slice_get, chars, slice_get_within, PatternFault, refused, GrammarFault, IfSome_then, Statement, statements, Line, Rule, nonterminals, written_out, Cause, HasPattern, HasPatternFault, IsFaultless, IsLineFault, IsFileFault, too_large, first_line, line, no_start, reference, reference_fault, IsFault, file_fault, unproductive, FileGrammar, IsGrammarOf, Reports, both_ways}
+use Rattle.grammar.proofs.Std.{◌≡◌, inl, inr, ℕ, List, [], ◌∷◌, ◌++◌, refl, ap, ◌∙◌, length, take, arith, subst, Option, Some, None, Result, Ok, Err, IfErr, slice_get, chars, slice_get_within, IfSome_then, both_ways}
+use Rattle.grammar.proofs.Common.{PatternFault}
+use Rattle.grammar.proofs.Common.{refused, GrammarFault, Statement, statements, Line, Rule, nonterminals, written_out, Cause, HasPattern, HasPatternFault, IsFaultless, IsLineFault, IsFileFault, too_large, first_line, line, no_start, reference, reference_fault, Reports}
+use Rattle.grammar.proofs.Common.{IsFault, file_fault, unproductive, FileGrammar, IsGrammarOf}
 
 met : {X : Type 0} (xs : List X) (y : X) (ys : List X) → slice_get (xs ++ y ∷ ys) (length xs) ≡ Some y
 met [] y ys = refl

@@ -1,5 +1,6 @@
 -- What marks at used nonterminals mean.
-use Rattle.grammar.proofs.Common.{◌≡◌, inl, inr, ℕ, zero, suc, ◌+◌, ◌<◌, Bool, true, false, List, [], ◌∷◌, ◌++◌, refl, ap, sym, ◌∙◌, length, take, drop, get_or, set, replicate, subst, Some, slice_get, slice_index_or, take_more, get_or-set_other, get_or-set_at, Symbol, Nonterminal, Grammar, IsUsed, The_start, On_right, is_marked, are_marked, IsSpread, IsReached, AreWithin, AreOnlyUsed, AreAllUsed, push_at, and_parts, Production' as Production}
+use Rattle.grammar.proofs.Std.{◌≡◌, inl, inr, ℕ, zero, suc, ◌+◌, ◌<◌, Bool, true, false, List, [], ◌∷◌, ◌++◌, refl, ap, sym, ◌∙◌, length, take, drop, get_or, set, replicate, subst, Some, slice_get, slice_index_or, take_more, get_or-set_other, get_or-set_at, and_parts}
+use Rattle.grammar.proofs.Common.{Symbol, Nonterminal, Grammar, IsUsed, The_start, On_right, is_marked, are_marked, IsSpread, IsReached, AreWithin, AreOnlyUsed, AreAllUsed, push_at, Production' as Production}
 use Rattle.grammar.proofs.NonterminalMarks.{same_or_not}
 
 pub spread_more : (ps : List Production) (marks : List Bool) (i : ℕ) (x : Production) → i < length ps → x ≡ get_or ps i x → IsSpread (take i ps) marks

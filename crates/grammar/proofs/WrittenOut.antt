@@ -1,5 +1,12 @@
 -- What the statements of a file define with the productions of its marked words.
-use Rattle.grammar.proofs.Common.{◌≡◌, ◌⊎◌, inl, inr, ℕ, zero, suc, ◌+◌, ◌*◌, ◌≤◌, Bool, true, false, ◌&&◌, ◌||◌, List, [], ◌∷◌, ◌++◌, refl, ap, sym, ◌∙◌, length, arith, subst, if◌then◌else◌, append-nil, length-append, Some, None, map, drop, slice_get, filter, nat_lt, unwrap_or, codes, list_any, list_all, fold, flat_map, enumerate_from, bytes_eq, lines, map-append, filter_map-append, fold-append, list_any-append, Version, One, Mark, Once, Any, AtLeastOnce, AtMostOnce, Word, words, is_name, after_equals, mark_of, is_mark, without_last, plain, Line, Nothing, Production, Rule, Start, Fold, Bad, Statement, at, numbered, is_comment, is_right_word, production, rule, statement, longer_line, line_of_words, line_of, statements_in, version_of, statements, ProductionLine, as_rule, as_production, as_start, productions, starts, nonterminals, is_among, with_name, right_sides, added, marked, written_out, AreFaultless, HaveReferents, symbol_fault, right_fault, is_skip_rule, AreFew, name_unmarked, first_of, both_ways, or_cases, or_left, or_parts, or_right, rules}
+use Rattle.grammar.proofs.Std.{◌≡◌, ◌⊎◌, ◌+◌, ◌*◌, ◌≤◌, ◌&&◌, ◌||◌, [], ◌∷◌, ◌++◌, ◌∙◌}
+use Rattle.grammar.proofs.Std.{inl, inr, ℕ, zero, suc, Bool, true, false, List, refl, ap, sym, length, subst, if◌then◌else◌, Some, None, map, drop, slice_get, filter, nat_lt, unwrap_or, codes, list_any, list_all, fold, flat_map, enumerate_from, bytes_eq, lines}
+use Rattle.grammar.proofs.Std.{arith, append-nil, length-append, map-append, filter_map-append, fold-append, list_any-append, both_ways, or_cases, or_left, or_parts, or_right}
+use Rattle.grammar.proofs.Common.{Version, One, Mark, Once, Any, AtLeastOnce, AtMostOnce, Word, words, is_name, after_equals, mark_of, is_mark, without_last, plain}
+use Rattle.grammar.proofs.Common.{Line, Nothing, Production, Rule, Start, Fold, Bad, Statement, at, numbered, is_comment, is_right_word, production, rule, statement, longer_line, line_of_words, line_of, statements_in, version_of, statements}
+use Rattle.grammar.proofs.Common.{name_unmarked}
+use Rattle.grammar.proofs.Common.{ProductionLine, as_rule, as_production, as_start, productions, starts, nonterminals, is_among, with_name, right_sides, added, marked, written_out, AreFaultless, HaveReferents, symbol_fault, right_fault, is_skip_rule, AreFew, rules}
+use Rattle.grammar.proofs.Common.{first_of}
 use Rattle.grammar_line.specs.Words.{is_marked}
 use Rattle.grammar.proofs.Lefts.{bytes_eq_same, among_fold}
 use Rattle.grammar.proofs.Numbered.{same_bytes, neither, comes_from, says_production, one_line, AreOnce, some_same}

@@ -1,5 +1,5 @@
 -- What `a.and(Ok(x))` is, from what is known of a.
-use Rattle.grammar_file.proofs.Common.{◌≡◌, sym, subst, Result, Ok, Err, OnOk, IfOk, IfErr, result_and}
+use Rattle.grammar_file.proofs.Std.{◌≡◌, sym, subst, Result, Ok, Err, OnOk, IfOk, IfErr, result_and}
 
 pub ok_of_and : {T U E : Type 0} (a : Result T E) (x : U) (r : Result U E) (P : U → Type 0) → r ≡ result_and a (Ok x) → OnOk a (P x) → IfOk r P
 ok_of_and (Ok y) x r P is h = subst (λ s. IfOk s P) (sym is) h

@@ -1,5 +1,6 @@
 -- What a file's lines say, as a whole.
-use Rattle.grammar_file.proofs.Common.{◌≡◌, ℕ, ◌≤◌, true, false, List, [], ◌∷◌, refl, ap, sym, ◌∙◌, length, drop, subst, Bor, Option, Some, is_some, unwrap_or, lines, Version, One, File, GrammarFault, IfSome_then, Statement, statements, statements_in, version_of, is_headed, NoStart, IsFileFault, line, no_start, reference, IsWhole, IsFirstLineFault, IsFirstReferenceFault, texts, IsRead, Reports}
+use Rattle.grammar_file.proofs.Std.{◌≡◌, ℕ, ◌≤◌, true, false, List, [], ◌∷◌, refl, ap, sym, ◌∙◌, length, drop, subst, Bor, Option, Some, is_some, unwrap_or, lines, IfSome_then}
+use Rattle.grammar_file.proofs.Common.{Version, One, File, GrammarFault, Statement, statements, statements_in, version_of, is_headed, NoStart, IsFileFault, line, no_start, reference, IsWhole, IsFirstLineFault, IsFirstReferenceFault, texts, IsRead, Reports}
 
 -- the version that the first line gives
 pub version_is : (v xs : List (Bor (List ℕ))) (t : List ℕ) (given o : Option Version) → given ≡ version_of (texts v) → v ≡ xs → texts xs ≡ lines t → given ≡ o → version_of (lines t) ≡ o

@@ -1,4 +1,5 @@
 pub mod Common
+pub mod Std
 pub mod TestedItems
 pub mod NameLookUps
 pub mod Sets

@@ -1,5 +1,10 @@
 -- What one more line makes of the contents.
-use Rattle.grammar_file.proofs.Common.{◌≡◌, ℕ, ◌≤◌, Bool, true, false, List, [], ◌∷◌, ◌++◌, refl, ap, ◌∙◌, sym, length, arith, subst, length-append, append_assoc, inr, take, append-nil, Option, Some, None, map, filter, nat_lt, slice_get, ◌+◌, ◌*◌, fold, cons_option, flat_map, list_any, chars, common_steps, flat_map-append, File, map-append, take-append-le, fold-append, slice_get_within, IsPattern, Names, filter-append, filter_map-append, Expression, Line, Nothing, Production, Rule, Start, Fold, Bad, Statement, at, Symbol, Word, is_marked, with_marked, marked, Cause, is_skip_rule, HasPattern, early_fault, line_limit, limit_fault, late_fault, nonterminal_count, production_count, exceeded_limit, cause_if, or_else, IsFaultless, AreFaultless, IsLineFault, are_among, with_rule, with_skip, with_left, with_right, with_sides, with_production, with_start, AreNames, ArePatterns, IsPatternOf, with_pattern, AreFew, IsRead, lines_view}
+use Rattle.grammar_file.proofs.Std.{◌≡◌, ℕ, ◌≤◌, Bool, true, false, List, [], ◌∷◌, ◌++◌, refl, ap, ◌∙◌, sym, length, subst, inr, take, Option, Some, None, map, filter, nat_lt, slice_get, ◌+◌, ◌*◌, fold, cons_option, flat_map, list_any, chars}
+use Rattle.grammar_file.proofs.Std.{arith, length-append, append_assoc, append-nil, common_steps, flat_map-append, map-append, take-append-le, fold-append, slice_get_within, filter-append, filter_map-append}
+use Rattle.grammar_file.proofs.Common.{File, Names, with_marked, marked, Cause, is_skip_rule, HasPattern, early_fault, line_limit, limit_fault, late_fault, nonterminal_count, production_count, exceeded_limit, cause_if, or_else, IsFaultless, AreFaultless, IsLineFault}
+use Rattle.grammar_file.proofs.Common.{are_among, with_rule, with_skip, with_left, with_right, with_sides, with_production, with_start, AreNames, ArePatterns, IsPatternOf, with_pattern, AreFew, IsRead, lines_view}
+use Rattle.grammar_file.proofs.Common.{Line, Nothing, Production, Rule, Start, Fold, Bad, Statement, at, Word, is_marked}
+use Rattle.grammar_file.proofs.Common.{IsPattern, Expression, Symbol}
 use Rattle.grammar_file.proofs.OneMoreItem.{push_at, take-all, cons_option-append}
 use Rattle.grammar_file.proofs.Sets.{skips-step, sides-step}
 use Rattle.grammar_file.specs.Contents as of

@@ -1,5 +1,8 @@
 -- Names that are found by their texts.
-use Rattle.grammar_file.proofs.Common.{◌≡◌, ℕ, suc, ◌+◌, ◌<◌, ◌≤◌, Bool, true, false, cond, nat_lt, not, List, [], ◌∷◌, ◌++◌, length, position, Option, None, Some, is_some, Bor, refl, sym, ap, ◌∙◌, ◌||◌, true≢false, if◌then◌else◌, unwrap_or, arith, lt-ltb, le-ltb, length_push, map-append, position_or_len_push, prefix_len-le-length, ltb-true, ltb-false, eq-eqb, ne_eqb, eqb, list_any, position_or_len, bytes_eq, bytes_decides, nat_list_eq_equiv, lookup, Word, is_among, number_of, with_name, texts, AreNumbers}
+use Rattle.grammar_file.proofs.Std.{◌≡◌, ◌+◌, ◌<◌, ◌≤◌, [], ◌∷◌, ◌++◌, ◌∙◌, ◌||◌}
+use Rattle.grammar_file.proofs.Std.{ℕ, suc, Bool, true, false, cond, nat_lt, not, List, length, position, Option, None, Some, is_some, Bor, refl, sym, ap, if◌then◌else◌, unwrap_or, list_any, position_or_len, bytes_eq, bytes_decides, nat_list_eq_equiv, lookup}
+use Rattle.grammar_file.proofs.Std.{true≢false, arith, lt-ltb, le-ltb, length_push, map-append, position_or_len_push, prefix_len-le-length, ltb-true, ltb-false, eq-eqb, ne_eqb, eqb}
+use Rattle.grammar_file.proofs.Common.{Word, is_among, number_of, with_name, texts, AreNumbers}
 use Rattle.grammar_file.proofs.Splits.{length-texts}
 
 pub turned : (a b : Word) → bytes_eq a b ≡ bytes_eq b a

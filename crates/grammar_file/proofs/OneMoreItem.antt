@@ -1,5 +1,5 @@
 -- Facts about each element of a list, when one more comes.
-use Rattle.grammar_file.proofs.Common.{◌≡◌, ℕ, zero, suc, List, [], ◌∷◌, ◌++◌, refl, ap, length, take, subst, Option, Some, None, slice_get, cons_option}
+use Rattle.grammar_file.proofs.Std.{◌≡◌, ℕ, zero, suc, List, [], ◌∷◌, ◌++◌, refl, ap, length, take, subst, Option, Some, None, slice_get, cons_option}
 
 pub push_at : {X : Type 0} (P : ℕ → X → Type 0) (xs : List X) (y : X) → ((k : ℕ) (x : X) → slice_get xs k ≡ Some x → P k x)
     → P (length xs) y → (k : ℕ) (x : X) → slice_get (xs ++ y ∷ []) k ≡ Some x → P k x

@@ -1,5 +1,6 @@
 -- Sets that are lists, each of whose items is there once.
-use Rattle.grammar_file.proofs.Common.{◌≡◌, ℕ, Bool, true, false, List, [], ◌∷◌, ◌++◌, refl, ap, sym, ◌∙◌, ◌||◌, ◌&&◌, if◌then◌else◌, map, Bor, list_any, bytes_eq, pointwise, bytes_decides, list_any-append, map-append, Word, RuleLine, is_among, is_production, is_skip_rule, has_production, texts, are_among, with_names, with_rule, with_skip, with_sides, Line, Production, Rule, Statement, at, and_parts, or-true}
+use Rattle.grammar_file.proofs.Std.{◌≡◌, ℕ, Bool, true, false, List, [], ◌∷◌, ◌++◌, refl, ap, sym, ◌∙◌, ◌||◌, ◌&&◌, if◌then◌else◌, map, Bor, list_any, bytes_eq, pointwise, bytes_decides, list_any-append, map-append, and_parts, or-true}
+use Rattle.grammar_file.proofs.Common.{Word, RuleLine, is_among, is_production, is_skip_rule, has_production, texts, are_among, with_names, with_rule, with_skip, with_sides, Line, Production, Rule, Statement, at}
 use Rattle.grammar_file.proofs.NameLookUps.{turned}
 use Rattle.grammar_file.proofs.TestedItems.{pointwise-map}
 

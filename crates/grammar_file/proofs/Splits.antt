@@ -1,5 +1,8 @@
 -- A list of lines, cut at one of them.
-use Rattle.grammar_file.proofs.Common.{◌≡◌, ◌≢◌, ℕ, suc, ◌+◌, ◌<◌, List, [], ◌∷◌, ◌++◌, refl, ap, sym, ◌∙◌, length, take, drop, get_or, arith, append_assoc, Bor, subst, Option, Some, None, map, option_map, filter_map, cons_option, enumerate_from, map-append, take_more, take-append-drop, length-take-le, Version, Numbered, Statement, Line, Nothing, at, line_of, numbered, statements_in, filter_map-append, ProductionLine, productions, as_production, Cause, HaveReferents, reference_fault, IsLineFault, IsFirstLineFault, IsFirstReferenceFault, texts, statement_of, lines_view, IsRead, File}
+use Rattle.grammar_file.proofs.Std.{◌≡◌, ◌≢◌, ℕ, suc, ◌+◌, ◌<◌, List, [], ◌∷◌, ◌++◌, refl, ap, sym, ◌∙◌, length, take, drop, get_or, Bor, subst, Option, Some, None, map, option_map, filter_map, cons_option, enumerate_from}
+use Rattle.grammar_file.proofs.Std.{arith, append_assoc, map-append, take_more, take-append-drop, length-take-le, filter_map-append}
+use Rattle.grammar_file.proofs.Common.{Version, Statement, Line, Nothing, at, line_of, numbered, statements_in, texts}
+use Rattle.grammar_file.proofs.Common.{Numbered, ProductionLine, productions, as_production, Cause, HaveReferents, reference_fault, IsLineFault, IsFirstLineFault, IsFirstReferenceFault, statement_of, lines_view, IsRead, File}
 use Rattle.grammar_file.proofs.OneMoreItem.{push_at, cons_option-append}
 
 numbered-split : {Y : Type 0} (h : (ℕ × List ℕ) → Option Y) (xs : List (List ℕ)) (y : List ℕ) (zs : List (List ℕ)) (n m : ℕ) → m ≡ n + length xs

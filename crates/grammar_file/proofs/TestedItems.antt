@@ -1,5 +1,5 @@
 -- Tests of the items that a list is made from.
-use Rattle.grammar_file.proofs.Common.{◌≡◌, ℕ, Bool, List, [], ◌∷◌, refl, ap, ◌∙◌, ◌||◌, ◌&&◌, length, map, nat_lt, suc, ◌+◌, unwrap_or, Some, None, not, cond, position, list_any, prefix_len, position_or_len, pointwise}
+use Rattle.grammar_file.proofs.Std.{◌≡◌, ℕ, Bool, List, [], ◌∷◌, refl, ap, ◌∙◌, ◌||◌, ◌&&◌, length, map, nat_lt, suc, ◌+◌, unwrap_or, Some, None, not, cond, position, list_any, prefix_len, position_or_len, pointwise}
 
 pub list_any-map : {X Y : Type 0} (p : X → Bool) (h : Y → X) (ys : List Y) → list_any p (map h ys) ≡ list_any (λ y. p (h y)) ys
 list_any-map p h [] = refl

@@ -1,5 +1,6 @@
 -- The productions of marked words after the lines.
-use Rattle.grammar_file.proofs.Common.{◌≡◌, ℕ, ◌+◌, ◌<◌, List, [], ◌∷◌, ◌++◌, ap, sym, ◌∙◌, length, take, get_or, Bor, flat_map, take_more, flat_map_more, map-append, Statement, added, texts}
+use Rattle.grammar_file.proofs.Std.{◌≡◌, ℕ, ◌+◌, ◌<◌, List, [], ◌∷◌, ◌++◌, ap, sym, ◌∙◌, length, take, get_or, Bor, flat_map, take_more, flat_map_more, map-append}
+use Rattle.grammar_file.proofs.Common.{Statement, added, texts}
 
 -- the statements with what is added for one more word
 pub added_more : (ss ts us : List Statement) (ws : List (Bor (List ℕ))) (i : ℕ) (d : Bor (List ℕ)) → i < length ws → ts ≡ ss ++ flat_map added (texts (take i ws))

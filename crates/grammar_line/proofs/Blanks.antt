@@ -1,5 +1,8 @@
 -- Blanks at the ends of a text, as std's calls cut them off.
-use Rattle.grammar_line.proofs.Common.{◌≡◌, ◌≢◌, ◌<◌, ℕ, ◌-◌, Bool, true, false, List, [], ◌∷◌, ◌++◌, length, take, drop, refl, sym, ap, ◌∙◌, arith, ⊎_elim, ◌⊎◌, Option, Some, None, IfSome, char_set_contains, encode_utf8, len_utf8, FindsPrefixBy, FindsSuffixBy, HasPassingCharAt, CutsPrefixes, CutsSuffixes, IsTrimStartMatches, IsTrimEndMatches, false≢true, common_steps, take-append-drop, drop_all, append-nil, is_blank, trim_start, trim_end, or_nothing}
+use Rattle.grammar_line.proofs.Std.{◌≡◌, ◌≢◌, ◌<◌, ◌-◌, [], ◌∷◌, ◌++◌, ◌∙◌, ◌⊎◌}
+use Rattle.grammar_line.proofs.Std.{ℕ, Bool, true, false, List, length, take, drop, refl, sym, ap, ⊎_elim, Option, Some, None, IfSome, char_set_contains, encode_utf8, len_utf8, FindsPrefixBy, FindsSuffixBy, HasPassingCharAt, CutsPrefixes, CutsSuffixes, IsTrimStartMatches, IsTrimEndMatches}
+use Rattle.grammar_line.proofs.Std.{arith, false≢true, common_steps, take-append-drop, drop_all, append-nil}
+use Rattle.grammar_line.proofs.Common.{is_blank, trim_start, trim_end, or_nothing}
 
 abbrev is_listed : ℕ → Bool
 is_listed = char_set_contains (32 ∷ 9 ∷ [])

@@ -1,3 +1,4 @@
 pub mod Common
+pub mod Std
 mod Blanks
 pub mod Marked

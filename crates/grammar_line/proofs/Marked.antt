@@ -1,5 +1,6 @@
 -- The marks of words.
-use Rattle.grammar_line.proofs.Common.{◌≡◌, ◌≢◌, ℕ, Bool, true, false, if◌then◌else◌, ◌==◌, List, [], ◌∷◌, ◌++◌, refl, ap, sym, ◌∙◌, list_all, ne_eqb, and_parts, Once, Any, AtLeastOnce, AtMostOnce, Word, is_letter, is_name_byte, is_name, last_byte, without_last, mark_at, mark_of, is_mark, is_marked, plain}
+use Rattle.grammar_line.proofs.Std.{◌≡◌, ◌≢◌, ℕ, Bool, true, false, if◌then◌else◌, ◌==◌, List, [], ◌∷◌, ◌++◌, refl, ap, sym, ◌∙◌, list_all, ne_eqb, and_parts}
+use Rattle.grammar_line.proofs.Common.{Once, Any, AtLeastOnce, AtMostOnce, Word, is_letter, is_name_byte, is_name, last_byte, without_last, mark_at, mark_of, is_mark, is_marked, plain}
 
 last-of : (xs : List ℕ) (b : ℕ) → last_byte (xs ++ b ∷ []) ≡ b
 last-of (x ∷ y ∷ xs) b = last-of (y ∷ xs) b

@@ -1,10 +1,4 @@
--- What the proofs of this crate cite of definitions, of types and of other crates, passed on from one place. Declares nothing.
-pub use Rattle.std.proofs.Common.{◌++◌, ◌+◌, ◌<◌, ◌⊎◌, ◌∙◌, ◌∷◌, ◌≡◌, Err, IsSome, List, MatchOption, None, Ok, Option, Result, Some, [], ap, append-nil, append_assoc, arith, drop, get_or, inl, inr, length, map, option_map, refl, rules, subst, sym, take, ℕ}
-pub use Rattle.std.specs.Io.KnownBytes.{Appends, Consumes, IsAtEnd, Keeps}
-pub use Rattle.std.specs.Vec.Iter.{into_iter_items}
-pub use Rattle.std.proofs.lemmas.Grind.{flat_map-append}
-pub use Rattle.std.proofs.lemmas.List.{map-append, take-append-drop, take_more}
-pub use Rattle.std.proofs.lemmas.Result.{err_from_is_err_and}
+-- What the proofs of this crate cite of definitions, of types and of the repository's crates, passed on from one place. Declares nothing.
 pub use Rattle.frames.specs.Contents.{contents}
 pub use Rattle.frames.specs.Frames.{Faulty, GoesOn, IsOpen, Open, Splits, Tail, fault_of}
 pub use Rattle.frames.specs.Write.{frame}
@@ -19,7 +13,6 @@ pub use Rattle.sessions.specs.Runs.{Run}
 pub use Rattle.sessions.specs.Sessions.{AppendsPrefix, Ends, IsWritten}
 pub use Rattle.sessions.specs.Steps.{State, Step}
 pub use Rattle.own_replies.specs.States.{IdeState, first_of}
-pub use Rattle.std.specs.List.{Any}
 pub use Rattle.replies.specs.Ids.{Ident}
 pub use Rattle.questions.specs.Asked.{asked_in}
 pub use Rattle.questions.specs.Cancels.{cancelled_by, cancels, later_view, question_id}

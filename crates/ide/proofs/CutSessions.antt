@@ -1,5 +1,6 @@
 -- Sessions that are cut short: a prefix of the messages on the first contents is written.
-use Rattle.ide.proofs.Common.{◌≡◌, ℕ, List, [], ◌++◌, refl, ap, sym, subst, ◌∙◌, append-nil, append_assoc, map-append, Option, None, Result, Ok, Err, Keeps, Ident, IdeState, bytes_of, cancelled_by, cancels, contents_of, Serves, AppendsPrefix, Served, ServedInPart, HasServed, IsCutShort, RunFault}
+use Rattle.ide.proofs.Std.{◌≡◌, ℕ, List, [], ◌++◌, refl, ap, sym, subst, ◌∙◌, append-nil, append_assoc, map-append, Option, None, Result, Ok, Err, Keeps}
+use Rattle.ide.proofs.Common.{Ident, IdeState, bytes_of, cancelled_by, cancels, contents_of, Serves, AppendsPrefix, Served, ServedInPart, HasServed, IsCutShort, RunFault}
 use Rattle.server.proofs.Bytes.{appends_kept, prefix_after, prefix_all, prefix_nothing}
 use Rattle.ide.proofs.Runs.{bytes_then, contents_then, run_more, run_then, served_more, served_then}
 

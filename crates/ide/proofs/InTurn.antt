@@ -1,5 +1,6 @@
 -- What the contents of frames cancel, and the parts of a piece.
-use Rattle.ide.proofs.Common.{◌≡◌, ℕ, List, [], ◌∷◌, ◌++◌, map, drop, refl, ap, sym, subst, ◌∙◌, append-nil, Option, None, contents, Ident, cancels, IdeState, Served, ServedInPart}
+use Rattle.ide.proofs.Std.{◌≡◌, ℕ, List, [], ◌∷◌, ◌++◌, map, drop, refl, ap, sym, subst, ◌∙◌, append-nil, Option, None}
+use Rattle.ide.proofs.Common.{contents, Ident, cancels, IdeState, Served, ServedInPart}
 use Rattle.std.specs.Prelude.{option_map}
 use Rattle.frames.specs.declared.decoder.Frame.{Frame}
 use Rattle.replies.specs.Ids.{id_view}

@@ -1,4 +1,5 @@
 mod Common
+mod Std
 mod Runs
 mod Own
 mod CutSessions

@@ -1,5 +1,6 @@
 -- What comes of a look at the files of the language.
-use Rattle.ide.proofs.Common.{◌≡◌, List, ◌++◌, refl, ap, sym, subst, ◌∙◌, Option, Some, None, IdeState, Message, AreShown, Sent, map, map-append, message_view}
+use Rattle.ide.proofs.Std.{◌≡◌, List, ◌++◌, refl, ap, sym, subst, ◌∙◌, Option, Some, None, map, map-append}
+use Rattle.ide.proofs.Common.{IdeState, Message, AreShown, Sent, message_view}
 use Rattle.replies.specs.Replies.{Answer}
 use Rattle.rpc.specs.Unit.{Unit as Encoding}
 use Rattle.sessions.specs.declared.phase.Phase.TheVariants.{Ready}

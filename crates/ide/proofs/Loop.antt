@@ -1,5 +1,7 @@
 -- What the loop of a session keeps, and what it leaves.
-use Rattle.ide.proofs.Common.{◌≡◌, ℕ, List, [], ◌++◌, refl, ap, sym, subst, ◌∙◌, inl, inr, append-nil, Option, Some, None, Result, Ok, Err, Consumes, Keeps, IsAtEnd, FrameFault, Tail, Open, Faulty, Splits, IsOpen, GoesOn, fault_of, FileGrammar, RunFault, Frame, Memory, Read, Write, IdeState, first_of, Session, Ends, Served, ServedInPart, IsCutShort, IsTaken, EndsAt, IsWritten, bytes_of, run_fault, ShownData, Serves, cancels, contents_of}
+use Rattle.ide.proofs.Std.{◌≡◌, ℕ, List, [], ◌++◌, refl, ap, sym, subst, ◌∙◌, inl, inr, append-nil, Option, Some, None, Result, Ok, Err, Consumes, Keeps, IsAtEnd}
+use Rattle.ide.proofs.Common.{FrameFault, Tail, Open, Faulty, Splits, IsOpen, GoesOn, fault_of, FileGrammar, RunFault, Frame, Memory, Read, Write, IdeState, first_of, Ends, IsCutShort, EndsAt, IsWritten, bytes_of, run_fault, ShownData, cancels}
+use Rattle.ide.proofs.Common.{Session, Served, ServedInPart, IsTaken, Serves, contents_of}
 use Rattle.frames.specs.declared.fault.FrameFault.TheVariants as frame
 use Rattle.server.proofs.Bytes.{Refuses, consumes_then, consumes_nothing, consumes_no_more, finish_faulty, reads_nothing}
 use Rattle.ide.proofs.Runs.{served_more, served_nothing, served_then}

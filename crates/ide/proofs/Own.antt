@@ -1,5 +1,6 @@
 -- What comes of a content, by what it is read as and what it asks.
-use Rattle.ide.proofs.Common.{◌≡◌, ℕ, List, [], ◌∷◌, refl, ap, sym, subst, ◌∙◌, inl, inr, Option, Some, None, MatchOption, Ident, Message, received_in, asked_in, own_in, own_of, question_id, AnswersItself, StepOnContent, StepsAsShown, IdeState, AreShown}
+use Rattle.ide.proofs.Std.{◌≡◌, ℕ, List, [], ◌∷◌, refl, ap, sym, subst, ◌∙◌, inl, inr, Option, Some, None, MatchOption}
+use Rattle.ide.proofs.Common.{Ident, Message, received_in, asked_in, own_in, own_of, question_id, AnswersItself, StepOnContent, StepsAsShown, IdeState, AreShown}
 use Rattle.std.specs.Prelude.{IfSome, option_and_then}
 use Rattle.replies.specs.Replies.{Answer}
 use Rattle.rpc.specs.Messages.{Received}

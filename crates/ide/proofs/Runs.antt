@@ -1,5 +1,6 @@
 -- Runs one after another.
-use Rattle.ide.proofs.Common.{◌≡◌, ℕ, List, [], ◌∷◌, ◌++◌, map, refl, ap, sym, subst, ◌∙◌, inl, inr, append-nil, append_assoc, map-append, Option, Some, None, MatchOption, Appends, Any, flat_map-append, compact_text, frame, Ident, Message, message_data, bytes_of, cancelled_by, IdeState, StepOnContent, Event, comes, looks, cancels, contents_of, Serves, Served}
+use Rattle.ide.proofs.Std.{◌≡◌, ℕ, List, [], ◌∷◌, ◌++◌, map, refl, ap, sym, subst, ◌∙◌, inl, inr, append-nil, append_assoc, map-append, Option, Some, None, MatchOption, Appends, Any, flat_map-append}
+use Rattle.ide.proofs.Common.{compact_text, frame, Ident, Message, message_data, bytes_of, cancelled_by, IdeState, StepOnContent, Event, comes, looks, cancels, contents_of, Serves, Served}
 use Rattle.std.proofs.Common.{◌<◌, arith}
 use Rattle.std.proofs.Math.ListN.{get_or-append}
 use Rattle.std.proofs.lemmas.List.{length-append}

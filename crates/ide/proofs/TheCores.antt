@@ -1,5 +1,6 @@
 -- In each run of the editor's server there is one of the core.
-use Rattle.ide.proofs.Common.{◌≡◌, ℕ, List, [], ◌∷◌, ◌++◌, map, refl, ap, sym, subst, ◌∙◌, inl, inr, Option, Some, None, MatchOption, IsSome, ◌⊎◌, flat_map-append, Ident, Message, core_answers, core_part, Run, State, Step, received_in, asked_in, own_in, own_of, question_id, AnswersItself, IsReply, StepOnContent, StepsAsShown, IsLeftOff, LeavesOut, Serves, cancels, comes, IdeState}
+use Rattle.ide.proofs.Std.{◌≡◌, ℕ, List, [], ◌∷◌, ◌++◌, map, refl, ap, sym, subst, ◌∙◌, inl, inr, Option, Some, None, MatchOption, IsSome, ◌⊎◌, flat_map-append}
+use Rattle.ide.proofs.Common.{Ident, Message, core_answers, core_part, Run, State, Step, received_in, asked_in, own_in, own_of, question_id, AnswersItself, IsReply, StepOnContent, StepsAsShown, IsLeftOff, LeavesOut, Serves, cancels, comes, IdeState}
 use Rattle.ide.proofs.Runs.{all_come}
 use Rattle.shown.proofs.ShownAnswers.{the_answers}
 use Rattle.own_replies.proofs.OwnAlone.{is_own}

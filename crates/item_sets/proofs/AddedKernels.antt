@@ -1,5 +1,6 @@
 -- Kernels that are added to the states.
-use Rattle.item_sets.proofs.Common.{◌≡◌, ◌<◌, ◌≤◌, ◌⊎◌, ℕ, List, [], ◌∷◌, ◌++◌, length, slice_index_or, refl, sym, ap, ◌∙◌, subst, inl, inr, arith, length-append, cases_lt, each_more, get_or_append_left, All-cons, Contains-get_or, get_or-append_seam, Symbol, Terminal, Grammar, HasItem, Start, rules_valid, valid_rules, closed_set, Origin, Item, IsOrdered, kernel_at, origin_at, IsAbsent, Found, IsReached, IsLed, AreStates, Placed, GoesOn, Shape, IsSound, IsInside, IsItem, item_of, HasKernel}
+use Rattle.item_sets.proofs.Std.{◌≡◌, ◌<◌, ◌≤◌, ◌⊎◌, ℕ, List, [], ◌∷◌, ◌++◌, length, slice_index_or, refl, sym, ap, ◌∙◌, subst, inl, inr, arith, length-append, cases_lt, get_or_append_left, All-cons, Contains-get_or, get_or-append_seam}
+use Rattle.item_sets.proofs.Common.{each_more, Symbol, Terminal, Grammar, HasItem, Start, rules_valid, valid_rules, closed_set, Origin, Item, IsOrdered, kernel_at, origin_at, IsAbsent, Found, IsReached, IsLed, AreStates, Placed, GoesOn, Shape, IsSound, IsInside, IsItem, item_of, HasKernel}
 use Rattle.item_sets.proofs.FirstKernel.{start_item, start_kernel}
 
 abbrev none : Origin

@@ -1,5 +1,6 @@
 -- The kernel after a symbol is that of the longer prefix.
-use Rattle.item_sets.proofs.Common.{◌≡◌, ◌+◌, ◌<◌, ℕ, zero, suc, List, [], ◌∷◌, ◌++◌, Some, refl, sym, ap, ◌∙◌, subst, length, take, drop, Contains, arith, tail-eq_of_cons-eq, Symbol, Grammar, first, LrItem, IsValid, ByRules, Goto, rules_valid, valid_rules, Back, goto_back, Item, Shape, side, after_dot, item_of, IsItem, HasKernel, HasSet, Shifted, step}
+use Rattle.item_sets.proofs.Std.{◌≡◌, ◌+◌, ◌<◌, ℕ, zero, suc, List, [], ◌∷◌, ◌++◌, Some, refl, sym, ap, ◌∙◌, subst, length, take, drop, Contains, arith, tail-eq_of_cons-eq}
+use Rattle.item_sets.proofs.Common.{Symbol, Grammar, first, LrItem, IsValid, ByRules, Goto, rules_valid, valid_rules, Back, goto_back, Item, Shape, side, after_dot, item_of, IsItem, HasKernel, HasSet, Shifted, step}
 
 pub record Parts (n m : ℕ) (ss : List Symbol) (s : Symbol) : Type 0 where
   pub rest : List Symbol

@@ -1,5 +1,6 @@
 -- The items go on by one beginning, by one column or by one production.
-use Rattle.item_sets.proofs.Common.{◌≡◌, ◌+◌, ◌<◌, ◌≤◌, ℕ, Bool, true, false, List, [], ◌∷◌, ◌++◌, length, slice_index_or, refl, Contains, sym, subst, inl, inr, ⊎_elim, arith, cases_eq, cases_lt, All-push, Contains-push, Contains-push_cases, Contains-append_left, left_of, Shape, Item, marked, beginning_of, HaveBeginnings, Below, IsBefore, rank-lookahead_at, all_pairs_push}
+use Rattle.item_sets.proofs.Std.{◌≡◌, ◌+◌, ◌<◌, ◌≤◌, ℕ, Bool, true, false, List, [], ◌∷◌, ◌++◌, length, slice_index_or, refl, Contains, sym, subst, inl, inr, ⊎_elim, arith, cases_eq, cases_lt, All-push, Contains-push, Contains-push_cases, Contains-append_left, all_pairs_push}
+use Rattle.item_sets.proofs.Common.{left_of, Shape, Item, marked, beginning_of, HaveBeginnings, Below, IsBefore, rank-lookahead_at}
 use Rattle.item_sets.proofs.Ordered.{before_below, before_more, before_next}
 
 module _ (g : Shape) (kernel : List Item) (rows : List (List Bool)) (p k : ℕ) (items : List Item) (h : HaveBeginnings g kernel rows p k items) where

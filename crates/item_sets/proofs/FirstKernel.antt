@@ -1,5 +1,6 @@
 -- The first kernel, and prefixes with one kernel.
-use Rattle.item_sets.proofs.Common.{◌≡◌, List, [], ◌∷◌, None, refl, subst, ⊎_elim, arith, Symbol, Grammar, LrItem, IsValid, HaveSameItems, Contains-cases, ByRules, Start, Goto, Close, rules_valid, valid_rules, kernel_shows, not_empty, IsKernel, Item, item_of, HasKernel}
+use Rattle.item_sets.proofs.Std.{◌≡◌, List, [], ◌∷◌, None, refl, subst, ⊎_elim, arith}
+use Rattle.item_sets.proofs.Common.{Symbol, Grammar, LrItem, IsValid, HaveSameItems, Contains-cases, ByRules, Start, Goto, Close, rules_valid, valid_rules, kernel_shows, not_empty, IsKernel, Item, item_of, HasKernel}
 
 abbrev pub start_item : Item
 start_item = record { production = None; at = 0; look = None }

@@ -1,5 +1,6 @@
 -- Where symbols lead from a state, as more states come.
-use Rattle.item_sets.proofs.Common.{◌<◌, ℕ, List, [], ◌∷◌, ◌++◌, Option, Some, None, length, slice_index_or, sym, ◌∙◌, subst, arith, Symbol, Grammar, Item, GoesOn, IsStep, HasKernel, symbol_of, each_more}
+use Rattle.item_sets.proofs.Std.{◌<◌, ℕ, List, [], ◌∷◌, ◌++◌, Option, Some, None, length, slice_index_or, sym, ◌∙◌, subst, arith}
+use Rattle.item_sets.proofs.Common.{Symbol, Grammar, Item, GoesOn, IsStep, HasKernel, symbol_of, each_more}
 
 pub goes_on_trans : (a b c : List (List Item)) → GoesOn a b → GoesOn b c → GoesOn a c
 goes_on_trans a b c h k = record {

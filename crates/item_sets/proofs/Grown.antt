@@ -1,5 +1,6 @@
 -- A worklist that grows twice.
-use Rattle.item_sets.proofs.Common.{◌⊎◌, ◌<◌, ◌+◌, ℕ, arith, sym, subst, ◌∙◌, ⊎_elim, inl, inr, Entries, IsGrownBy}
+use Rattle.item_sets.proofs.Std.{◌⊎◌, ◌<◌, ◌+◌, ℕ, arith, sym, subst, ◌∙◌, ⊎_elim, inl, inr}
+use Rattle.item_sets.proofs.Common.{Entries, IsGrownBy}
 
 -- what grows by these calls, and then by those, grows by both
 pub grown_twice : (these those both : ℕ → ℕ → Type 0) (old mid new : Entries) → IsGrownBy these old mid → IsGrownBy those mid new

@@ -1,5 +1,7 @@
 -- All numbers of the items of a set are in range.
-use Rattle.item_sets.proofs.Common.{◌≡◌, ◌+◌, ◌<◌, ℕ, Bool, true, List, [], ◌∷◌, Option, Some, None, refl, sym, inl, subst, length, All, Contains, ⊎_elim, arith, IfSome, All-cons, All-head, All-tail, All-drop, Symbol, Nonterminal, first, Item, left_of, right_of, lookahead_at, Shape, IsSound, IsKnown, MayFollow, side, after_dot, IsItem, IsIn, Kernel, Closed, marked, AreMarked, CallFor, IsCalledFor, IsExpanded, AreCalledFor, HaveBeginnings, has_production, column_there, may_known}
+use Rattle.item_sets.proofs.Std.{◌≡◌, ◌+◌, ◌<◌, ℕ, Bool, true, List, [], ◌∷◌, Option, Some, None, refl, sym, inl, subst, length, All, Contains, ⊎_elim, arith, IfSome, All-cons, All-head, All-tail, All-drop}
+use Rattle.item_sets.proofs.Common.{Symbol, Nonterminal, first, left_of, right_of}
+use Rattle.item_sets.proofs.Common.{Item, lookahead_at, Shape, IsSound, IsKnown, MayFollow, side, after_dot, IsItem, IsIn, Kernel, Closed, marked, AreMarked, CallFor, IsCalledFor, IsExpanded, AreCalledFor, HaveBeginnings, has_production, column_there, may_known}
 use Rattle.item_sets.proofs.WorklistIsRight.{begins_in}
 
 first_known : (g : Shape) (s : Symbol) (ss : List Symbol) → All (IsKnown g) ss → first ss ≡ Some s → IsKnown g s

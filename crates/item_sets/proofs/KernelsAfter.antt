@@ -1,5 +1,7 @@
 -- The kernels after all symbols of a set, as its items are taken one by one.
-use Rattle.item_sets.proofs.Common.{◌≡◌, ◌+◌, ◌<◌, ◌≤◌, ℕ, List, [], ◌∷◌, ◌++◌, Some, All, Contains, length, slice_index_or, slice_set, refl, sym, ap, ◌∙◌, subst, inr, ⊎_elim, arith, length-set, get_or-set_same, get_or-set_other, cases_eq, get_or_default, Contains-get_or, Contains-push, Contains-push_cases, Contains-append_left, Symbol, Grammar, first, Item, IsRising, IsInside, Shape, IsKnown, IsItem, after_dot, step, ShiftsUpTo, IsKernelAfter, number, symbol_of, number-symbol_of, symbol_of-number}
+use Rattle.item_sets.proofs.Std.{◌≡◌, ◌+◌, ◌<◌, ◌≤◌, ℕ, List, [], ◌∷◌, ◌++◌, Some, All, Contains, length, slice_index_or, slice_set, refl, sym, ap, ◌∙◌, subst, inr, ⊎_elim}
+use Rattle.item_sets.proofs.Std.{arith, length-set, get_or-set_same, get_or-set_other, cases_eq, get_or_default, Contains-get_or, Contains-push, Contains-push_cases, Contains-append_left}
+use Rattle.item_sets.proofs.Common.{Symbol, Grammar, first, Item, IsRising, IsInside, Shape, IsKnown, IsItem, after_dot, step, ShiftsUpTo, IsKernelAfter, number, symbol_of, number-symbol_of, symbol_of-number}
 use Rattle.item_sets.proofs.AfterDot.{step_known, moved}
 use Rattle.item_sets.proofs.Ordered.{rising_step}
 

@@ -1,4 +1,5 @@
 pub mod Common
+pub mod Std
 pub mod WorklistIsRight
 pub mod FirstKernel
 pub mod InRange

@@ -1,5 +1,6 @@
 -- The order of items, which the closure and a step of the dots keep.
-use Rattle.item_sets.proofs.Common.{◌≡◌, ◌<◌, ◌+◌, ℕ, zero, suc, List, [], ◌∷◌, ◌++◌, Contains, length, slice_index_or, refl, ap, subst, inl, inr, arith, Contains-get_or, all_pairs_push, same_elements, Item, beginning_of, step, rank, Below, IsRising, IsBefore, rank-lookahead_at}
+use Rattle.item_sets.proofs.Std.{◌≡◌, ◌<◌, ◌+◌, ℕ, zero, suc, List, [], ◌∷◌, ◌++◌, Contains, length, slice_index_or, refl, ap, subst, inl, inr, arith, Contains-get_or, all_pairs_push}
+use Rattle.item_sets.proofs.Common.{same_elements, Item, beginning_of, step, rank, Below, IsRising, IsBefore, rank-lookahead_at}
 
 pub before_below : (p k : ℕ) (i : Item) → IsBefore p k i → Below i (beginning_of p k)
 before_below p k i (inl (inl e)) = at_start (i.at) refl

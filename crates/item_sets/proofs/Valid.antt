@@ -1,5 +1,8 @@
 -- The set of a kernel is the set of each prefix that has the kernel.
-use Rattle.item_sets.proofs.Common.{◌≡◌, ◌<◌, ℕ, zero, suc, List, [], ◌∷◌, Option, Some, None, sym, ap, subst, length, take, drop, All, Contains, IfSome, Symbol, Nonterminal, Grammar, HasProduction, trees, left_of, right_of, AllProductive, LrItem, IsValid, IsFirst, ByRules, Close, rules_valid, valid_rules, closed_set, IsKernel, right_trees, roots-trees, HasTrees, first_of_rules, first_by_rules, Item, Shape, IsSound, MayFollow, side, item_of, IsItem, IsIn, Kernel, Closed, HasKernel, HasSet, has_production, production_is, production_below}
+use Rattle.item_sets.proofs.Std.{◌≡◌, ◌<◌, ℕ, zero, suc, List, [], ◌∷◌, Option, Some, None, sym, ap, subst, length, take, drop, All, Contains, IfSome}
+use Rattle.item_sets.proofs.Common.{Symbol, Nonterminal, Grammar, HasProduction, trees, left_of, right_of, AllProductive, LrItem, IsValid}
+use Rattle.item_sets.proofs.Common.{IsFirst, ByRules, Close, rules_valid, valid_rules, closed_set, IsKernel, right_trees, roots-trees, HasTrees, first_of_rules, first_by_rules, Shape, IsSound, MayFollow, has_production, production_is, production_below}
+use Rattle.item_sets.proofs.Common.{Item, side, item_of, IsItem, IsIn, Kernel, Closed, HasKernel, HasSet}
 use Rattle.item_sets.proofs.InRange.{in_known}
 
 module _ (g : Grammar) where

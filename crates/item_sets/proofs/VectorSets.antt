@@ -1,5 +1,7 @@
 -- A list of vectors that is kept as a set.
-use Rattle.item_sets.proofs.Common.{◌≡◌, ◌<◌, ◌⊎◌, ◌&&◌, ℕ, Bool, true, false, List, [], ◌∷◌, ◌++◌, Option, Some, None, Vec, length, slice_index_or, slice_get, refl, sym, ap, ◌∙◌, inl, inr, map, arith, if◌then◌else◌, Decides, option_eq, eqb, Decides-and, Decides-eqb, list_any, position, pointwise, slice_eq-Decides, get_or-map, map-append, length-map, list_any_at, position-Some, get_or_from_slice_get, ghosts, Item, IsAbsent, Global}
+use Rattle.item_sets.proofs.Std.{◌≡◌, ◌<◌, ◌⊎◌, ◌&&◌, ℕ, Bool, true, false, List, [], ◌∷◌, ◌++◌, Option, Some, None, Vec, length, slice_index_or, slice_get, refl, sym, ap, ◌∙◌, inl, inr, map, if◌then◌else◌, Decides, option_eq, list_any, position, pointwise, Global}
+use Rattle.item_sets.proofs.Std.{arith, eqb, Decides-and, Decides-eqb, slice_eq-Decides, get_or-map, map-append, length-map, list_any_at, position-Some, get_or_from_slice_get}
+use Rattle.item_sets.proofs.Common.{ghosts, Item, IsAbsent}
 
 option_same : (x y : Option ℕ) → Decides (option_eq eqb x y) (x ≡ y)
 option_same None None = (λ e. refl, λ e. refl)

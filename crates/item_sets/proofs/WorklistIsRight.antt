@@ -1,5 +1,6 @@
 -- What the worklist has is rightly there.
-use Rattle.item_sets.proofs.Common.{◌≡◌, ◌<◌, ℕ, Bool, true, List, length, Grammar, left_of, Item, IsIn, Closed, lookahead_at, marked, IsCalledFor, IsExpanded, beginning_of}
+use Rattle.item_sets.proofs.Std.{◌≡◌, ◌<◌, ℕ, Bool, true, List, length}
+use Rattle.item_sets.proofs.Common.{Grammar, left_of, Item, IsIn, Closed, lookahead_at, marked, IsCalledFor, IsExpanded, beginning_of}
 
 module _ (g : Grammar) (kernel : List Item) (rows : List (List Bool)) (sound : (n k : ℕ) → marked rows n k ≡ true → IsCalledFor g kernel n k) where
   pub begins_in : (m j : ℕ) → marked rows m j ≡ true → (p : ℕ) → p < length g.productions → left_of g p ≡ m → IsIn g kernel (beginning_of p j)

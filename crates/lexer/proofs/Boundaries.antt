@@ -1,5 +1,7 @@
 -- The boundaries of stored tokens are the sums of their lengths.
-use Rattle.lexer.proofs.Common.{arith, refl, sym, ap, inl, inr, ◌∙◌, ◌≡◌, ◌≢◌, ℕ, zero, suc, ◌+◌, ◌-◌, ◌<◌, ◌≤◌, true, false, ◌==◌, List, [], ◌∷◌, length, take, slice_index_or, MatchOption, Option, Some, None, cases_Bool, and_from, and_parts, le-leb, leb-true, eq-eqb, eqb-true, get_or_default, Any-from_list_any, list_any_at, Edit, boundaries, is_rejoined, length-boundaries, Token, characters, plain_all}
+use Rattle.lexer.proofs.Std.{arith, cases_Bool, and_from, and_parts, le-leb, leb-true, eq-eqb, eqb-true, get_or_default, Any-from_list_any, list_any_at}
+use Rattle.lexer.proofs.Std.{refl, sym, ap, inl, inr, ◌∙◌, ◌≡◌, ◌≢◌, ℕ, zero, suc, ◌+◌, ◌-◌, ◌<◌, ◌≤◌, true, false, ◌==◌, List, [], ◌∷◌, length, take, slice_index_or, MatchOption, Option, Some, None}
+use Rattle.lexer.proofs.Common.{Edit, boundaries, is_rejoined, length-boundaries, Token, characters, plain_all}
 use Rattle.lexer.proofs.Totals.{characters-cons}
 
 pub length-plain : (xs : List Token) → length (plain_all xs) ≡ length xs

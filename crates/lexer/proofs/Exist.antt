@@ -1,5 +1,7 @@
 -- Where there is an automaton of the rules, every text has tokens: the run of the automaton finds the next one.
-use Rattle.lexer.proofs.Common.{arith, refl, inl, inr, length-drop, ◌≡◌, ℕ, zero, suc, ◌+◌, ◌<◌, ◌≤◌, ◌⊎◌, min, List, [], ◌∷◌, length, take, drop, slice_index, slice_index_or, Option, Some, None, All-drop, All-take, Expression, Kind, Rule, Invalid, IsCharacter, IsText, IsRulePrefix, IsPiece, IsToken, AreTokens, Table, follower, state_after, IsAutomaton, kind_of, IsBest, Ends, best_none, best_more_none, best_more_some, prefixes_more, more_state, more_prefix, more_first, more_dead, piece_of, reach_of, state_after-none, PlainToken as Token}
+use Rattle.lexer.proofs.Std.{arith, refl, inl, inr, length-drop, ◌≡◌, ℕ, zero, suc, ◌+◌, ◌<◌, ◌≤◌, ◌⊎◌, min, List, [], ◌∷◌, length, take, drop, slice_index, slice_index_or, Option, Some, None, All-drop, All-take}
+use Rattle.lexer.proofs.Common.{Expression, Kind, Rule, Invalid, IsCharacter, IsText, IsRulePrefix, IsPiece, IsToken, AreTokens, PlainToken as Token}
+use Rattle.lexer.proofs.Common.{Table, follower, state_after, IsAutomaton, kind_of, IsBest, Ends, best_none, best_more_none, best_more_some, prefixes_more, more_state, more_prefix, more_first, more_dead, piece_of, reach_of, state_after-none}
 
 module _ (rules : List Expression) (table : Table) (a : IsAutomaton rules table) where
   -- the run over the first n characters of t: its state, and the best of their prefixes

@@ -1,4 +1,5 @@
 pub mod Common
+pub mod Std
 pub mod Totals
 pub mod Boundaries
 pub mod SignificantKinds

@@ -1,5 +1,5 @@
 -- Characters of a list that pass a test, one after another.
-use Rattle.lexer.proofs.Common.{arith, sym, ap, subst, ◌∙◌, ◌≡◌, ℕ, zero, ◌+◌, ◌-◌, ◌<◌, ◌≤◌, All, List, length, length-drop, take, drop, slice_index_or, get_or-drop, All-more, All-nil}
+use Rattle.lexer.proofs.Std.{arith, sym, ap, subst, ◌∙◌, ◌≡◌, ℕ, zero, ◌+◌, ◌-◌, ◌<◌, ◌≤◌, All, List, length, length-drop, take, drop, slice_index_or, get_or-drop, All-more, All-nil}
 
 -- those from offset `i` to offset `end` pass
 pub record ArePassed (P : ℕ → Type 0) (t : List ℕ) (i end : ℕ) : Type 0 where

@@ -1,5 +1,9 @@
 -- What a rescan has made, at a place where no rejoining has been.
-use Rattle.lexer.proofs.Common.{take-map, GoOn, before_rejoin, chars, chars-cons, chars_from, prefix_before, prefix_leads, leads_inside, leads_join, leads_split, length-placed, placed_at, Leads, length-edit, cases_lt, map-append, take-take, length-take, take_all, take-append-le, prefix_len-le-length, sum_by-append, take-append-add, Edit, Expression, edit, PlainToken, Placed, IsToken, AreTokens, placed, boundaries, kept_before, is_rejoined, boundaries-end, length-boundaries, IsWithinReach, Lexicon, Token, plain, characters, Fits, plain_all, prefix_end, IsEdited, IsNeeded, IsReachedByMade, IsPassed, horizon, arith, refl, sym, ap, subst, inl, inr, ◌∙◌, length-append, length-drop, ◌≡◌, ℕ, ◌+◌, ◌-◌, ◌<◌, ◌≤◌, ◌^◌, true, false, List, [], ◌∷◌, ◌++◌, length, take, drop, slice_get, slice_index_or, IsSomeAnd}
+use Rattle.lexer.proofs.Std.{take-map, cases_lt, map-append, take-take, length-take, take_all, take-append-le, prefix_len-le-length, sum_by-append, take-append-add, arith, length-append, length-drop}
+use Rattle.lexer.proofs.Std.{refl, sym, ap, subst, inl, inr, ◌∙◌, ◌≡◌, ℕ, ◌+◌, ◌-◌, ◌<◌, ◌≤◌, ◌^◌, true, false, List, [], ◌∷◌, ◌++◌, length, take, drop, slice_get, slice_index_or, IsSomeAnd}
+use Rattle.lexer.proofs.Common.{GoOn, before_rejoin, chars, chars-cons, chars_from, prefix_before, prefix_leads, leads_inside, leads_join, leads_split, length-placed, placed_at, length-edit, boundaries-end, length-boundaries}
+use Rattle.lexer.proofs.Common.{Leads, Edit, Expression, edit, PlainToken, Placed, IsToken, AreTokens, placed, boundaries, kept_before, is_rejoined}
+use Rattle.lexer.proofs.Common.{IsWithinReach, Lexicon, Token, plain, characters, Fits, plain_all, prefix_end, IsEdited, IsNeeded, IsReachedByMade, IsPassed, horizon}
 use Rattle.lexer.proofs.Totals.{characters-cons}
 use Rattle.lexer.proofs.Boundaries.{length-plain, boundary_at, not_after, is_rejoined_at}
 use Rattle.lexer.proofs.WithinReach.{within_token}

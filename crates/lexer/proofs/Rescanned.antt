@@ -1,5 +1,8 @@
 -- The tokens after a rescan are those of the edited text, and the kept ones are those that the edit keeps.
-use Rattle.lexer.proofs.Common.{drop-map, chars, prefix_before, leads_tokens, cases_lt, and_parts, leb-true, false≢true, append_assoc, map-append, length-take, take_all, take_at, drop_at, take-append-le, passes_at_first, fails_before_first, sum_by-append, All-append, All-take, All-drop, Edit, edit, AreTokens, boundaries, is_skipped, kinds, kept_before, is_rejoined, rejoin, same_kinds, gone, made_by, IsSpliced, Splice, splice, length-boundaries, AreTokens-drop, drop-edit, Lexicon, Token, kind_in, plain, is_significant, characters, Fits, plain_all, prefix_end, significant_kinds, change, IsEdited, IsRemade, AreRescanned, AreTokensAfter, Kind, arith, refl, sym, ap, subst, inl, inr, ◌∙◌, length-append, length-drop, ◌≡◌, ℕ, ◌+◌, ◌-◌, ◌<◌, ◌≤◌, ◌⊎◌, ◌^◌, true, false, List, [], ◌++◌, length, take, drop, slice_range, slice_index_or, All, count_by, if◌then◌else◌}
+use Rattle.lexer.proofs.Std.{drop-map, cases_lt, and_parts, leb-true, false≢true, append_assoc, map-append, length-take, take_all, take_at, drop_at, take-append-le, passes_at_first, fails_before_first, sum_by-append, All-append, All-take, All-drop, arith, length-append, length-drop}
+use Rattle.lexer.proofs.Std.{refl, sym, ap, subst, inl, inr, ◌∙◌, ◌≡◌, ℕ, ◌+◌, ◌-◌, ◌<◌, ◌≤◌, ◌⊎◌, ◌^◌, true, false, List, [], ◌++◌, length, take, drop, slice_range, slice_index_or, All, count_by, if◌then◌else◌}
+use Rattle.lexer.proofs.Common.{chars, prefix_before, leads_tokens, Edit, edit, AreTokens, boundaries, is_skipped, kinds, kept_before, is_rejoined, rejoin, same_kinds, gone, made_by, IsSpliced, Splice, splice, length-boundaries, AreTokens-drop, drop-edit, Kind}
+use Rattle.lexer.proofs.Common.{Lexicon, Token, kind_in, plain, is_significant, characters, Fits, plain_all, prefix_end, significant_kinds, change, IsEdited, IsRemade, AreRescanned, AreTokensAfter}
 use Rattle.lexer.proofs.SignificantKinds.{length-kinds, kinds_plain, count_range, spliced_kinds}
 use Rattle.lexer.proofs.Boundaries.{length-plain, boundary_at}
 use Rattle.lexer.proofs.Remakes.{chars-plain, plain-take, all_lead, many as kept_length, not_before, tokens_length}

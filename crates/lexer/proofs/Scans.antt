@@ -1,5 +1,7 @@
 -- Tokens made one after another.
-use Rattle.lexer.proofs.Common.{arith, inl, inr, sym, ap, subst, ◌∙◌, ◌≡◌, ℕ, ◌+◌, ◌<◌, ◌≤◌, ◌^◌, Bool, List, [], ◌∷◌, ◌++◌, length, take, drop, map, All, Option, Some, None, IfSome, IsSomeAnd, cases_lt, slice_get_past, append-nil, drop-drop, drop_all, map-append, sum_by-append, sum_by_push, All-nil, All-cons, All-append, Expression, Matches, IsPiece, IsToken, AreTokens, Leads, is_skipped, chars, leads_join, leads_more, leads_tokens, kind_of, Lexicon, Token, kind_in, plain, characters, AreMade, AreNext}
+use Rattle.lexer.proofs.Std.{arith, cases_lt, slice_get_past, append-nil, drop-drop, drop_all, map-append, sum_by-append, sum_by_push, All-nil, All-cons, All-append}
+use Rattle.lexer.proofs.Std.{inl, inr, sym, ap, subst, ◌∙◌, ◌≡◌, ℕ, ◌+◌, ◌<◌, ◌≤◌, ◌^◌, Bool, List, [], ◌∷◌, ◌++◌, length, take, drop, map, All, Option, Some, None, IfSome, IsSomeAnd}
+use Rattle.lexer.proofs.Common.{Expression, Matches, IsPiece, IsToken, AreTokens, Leads, is_skipped, chars, leads_join, leads_more, leads_tokens, kind_of, Lexicon, Token, kind_in, plain, characters, AreMade, AreNext}
 use Rattle.lexer.proofs.Remakes.{chars-plain}
 use Rattle.lexer.proofs.Totals.{length-le-characters}
 

@@ -1,5 +1,7 @@
 -- The kinds of the significant ones of a list of tokens.
-use Rattle.lexer.proofs.Common.{arith, refl, sym, ap, subst, ◌∙◌, slice_range, length-append, nat_eq, ◌≡◌, ℕ, zero, suc, ◌+◌, ◌-◌, ◌<◌, ◌≤◌, drop, Bool, true, false, List, [], ◌∷◌, ◌++◌, length, take, map, filter, count_by, slice_get, slice_index_or, Option, Some, None, All, if◌then◌else◌, append_assoc, drop_at, drop-take, length-map, map-append, take_at, take-append-drop, take-take, length-filter, tail-eq_of_cons-eq, head-eq_of_cons-eq, YieldsFirst, and_parts, eqb-true, Kind, Rule, Invalid, IsSpliced, same_kind, same_kinds, Token, kind_in, is_significant, kinds, is_skipped, All-head, All-tail, filter-append, significant_kinds, plain_all, change}
+use Rattle.lexer.proofs.Std.{arith, length-append, append_assoc, drop_at, drop-take, length-map, map-append, take_at, take-append-drop, take-take, length-filter, tail-eq_of_cons-eq, head-eq_of_cons-eq, and_parts, eqb-true, All-head, All-tail, filter-append}
+use Rattle.lexer.proofs.Std.{refl, sym, ap, subst, ◌∙◌, slice_range, nat_eq, ◌≡◌, ℕ, zero, suc, ◌+◌, ◌-◌, ◌<◌, ◌≤◌, drop, Bool, true, false, List, [], ◌∷◌, ◌++◌, length, take, map, filter, count_by, slice_get, slice_index_or, Option, Some, None, All, if◌then◌else◌, YieldsFirst}
+use Rattle.lexer.proofs.Common.{Kind, Rule, Invalid, IsSpliced, same_kind, same_kinds, Token, kind_in, is_significant, kinds, is_skipped, significant_kinds, plain_all, change}
 use Rattle.lexer.proofs.Totals.{count-cons}
 
 count_first : (s : Bool) (x : Token) (xs : List Token) → x.skipped ≡ s → count_by is_significant (x ∷ xs) ≡ (if s then 0 else 1) + count_by is_significant xs

@@ -1,5 +1,7 @@
 -- The sums of tokens are exact where they fit.
-use Rattle.lexer.proofs.Common.{arith, refl, sym, ap, subst, inl, inr, ◌∙◌, ◌≡◌, ℕ, zero, suc, ◌+◌, ◌<◌, ◌≤◌, ◌^◌, Bool, true, false, not, List, [], ◌∷◌, length, take, count_by, All, IsTrue, nat_lt, if◌then◌else◌, length-take, cases_lt, ltb-true, ltb-false, take_all, take-take, count_by-le-length, sum_by-take-le, sum_by-cons, All-head, All-tail, total, saturated, saturated-exact, Sums, Token, most, no_tokens, joined, token_sum, is_significant, characters, Fits}
+use Rattle.lexer.proofs.Std.{arith, length-take, cases_lt, ltb-true, ltb-false, take_all, take-take, count_by-le-length, sum_by-take-le, sum_by-cons, All-head, All-tail}
+use Rattle.lexer.proofs.Std.{refl, sym, ap, subst, inl, inr, ◌∙◌, ◌≡◌, ℕ, zero, suc, ◌+◌, ◌<◌, ◌≤◌, ◌^◌, Bool, true, false, not, List, [], ◌∷◌, length, take, count_by, All, IsTrue, nat_lt, if◌then◌else◌}
+use Rattle.lexer.proofs.Common.{total, saturated, saturated-exact, Sums, Token, most, no_tokens, joined, token_sum, is_significant, characters, Fits}
 
 abbrev pub tot : List Token → Sums
 tot xs = total no_tokens joined token_sum xs

@@ -1,5 +1,6 @@
 -- A walk over tokens goes on by one, and finds a token where one starts.
-use Rattle.lexer.proofs.Common.{arith, inl, inr, sym, ap, subst, ◌∙◌, length-drop, ◌≡◌, ◌≢◌, ◌⊎◌, ℕ, suc, ◌+◌, ◌-◌, ◌<◌, ◌≤◌, List, [], ◌∷◌, length, take, drop, slice_index_or, cases_lt, drop_more, take_more, sum_by-append, head-eq_of_cons-eq, tail-eq_of_cons-eq, Token, characters, Fits, Spot, IsWalk, IsPassed}
+use Rattle.lexer.proofs.Std.{arith, inl, inr, sym, ap, subst, ◌∙◌, length-drop, ◌≡◌, ◌≢◌, ◌⊎◌, ℕ, suc, ◌+◌, ◌-◌, ◌<◌, ◌≤◌, List, [], ◌∷◌, length, take, drop, slice_index_or, cases_lt, drop_more, take_more, sum_by-append, head-eq_of_cons-eq, tail-eq_of_cons-eq}
+use Rattle.lexer.proofs.Common.{Token, characters, Fits, Spot, IsWalk, IsPassed}
 use Rattle.lexer.proofs.Totals.{characters-cons, characters-step, characters-mono}
 
 module _ (items rest : List Token) (x : Token) (place start : ℕ) (w : IsWalk items (x ∷ rest) place start) where

@@ -1,5 +1,8 @@
 -- The branches that carry an edit's number are those that lie in no kept node, so that their count is what the edit has built.
-use Rattle.parser.proofs.Common.{◌≡◌, ◌≢◌, ℕ, ◌+◌, ◌<◌, Bool, true, false, List, [], ◌∷◌, ◌++◌, length, refl, sym, ap, ◌∙◌, subst, arith, length-append, ◌==◌, if◌then◌else◌, eqb-true, tail-eq_of_cons-eq, Tree, Forest, Leaf, Branch, trees, yield, yields, all_kinds, StandsIn, Top, Below, Past, place_of, branches, all_branches, Splice, IsKept, LiesInKept, Built, Nothing, Kept, New, Stamped, StampedLeaf, StampedBranch, StampedForest, StampedNil, StampedCons, StampedIn, StampedTop, StampedBelow, StampedPast, plain, plain_all, plain_trees, stamped_trees, stands_inside, stamped_stands, stands_branches, branches-append, branches-trees, all_branches_by, branches_of_by, StampsKept}
+use Rattle.parser.proofs.Std.{◌≡◌, ◌≢◌, ℕ, ◌+◌, ◌<◌, Bool, true, false, List, [], ◌∷◌, ◌++◌, length, refl, sym, ap, ◌∙◌, subst, arith, length-append, ◌==◌, if◌then◌else◌, eqb-true, tail-eq_of_cons-eq}
+use Rattle.parser.proofs.Common.{Tree, Forest, Leaf, Branch, trees, yield, yields, all_kinds, StandsIn, Top, Below, Past, place_of, branches, all_branches, Splice}
+use Rattle.parser.proofs.Common.{IsKept, LiesInKept, Built, Nothing, Kept, New, Stamped, StampedLeaf, StampedBranch, StampedForest, StampedNil, StampedCons, StampedIn, StampedTop, StampedBelow, StampedPast, plain, plain_all, plain_trees, stamped_trees}
+use Rattle.parser.proofs.Common.{stands_inside, stamped_stands, stands_branches, branches-append, branches-trees, all_branches_by, branches_of_by, StampsKept}
 use Rattle.definitions.specs.TreeEdits.{Token}
 use Rattle.parser.proofs.Counts.{by-forest, other_number, without}
 use Rattle.parser.proofs.Stamping.{plain-stamped}

@@ -1,19 +1,12 @@
--- What the proofs of this crate cite of definitions, of types and of other crates, passed on from one place. Declares nothing.
-pub use Rattle.std.proofs.Common.{◌++◌, ◌+◌, ◌-◌, ◌<◌, ◌==◌, ◌^◌, ◌↔◌, ◌∙◌, ◌∷◌, ◌≡◌, ◌≢◌, ◌≤◌, ◌⊎◌, Bool, Err, IfOk, IfSome, IsSome, List, MatchOption, None, Ok, Option, Result, Some, [], ap, append_assoc, arith, drop, false, get_or, if◌then◌else◌, inl, inr, length, length-append, length-drop, length-take, map, min, option_to_list, refl, rules, slice_get, subst, suc, sym, take, take-append-drop, true, zero, ℕ, ⊎_elim}
-pub use Rattle.std.specs.Option.{is_some}
-pub use mathlib.Core.List.{head-eq_of_cons-eq, tail-eq_of_cons-eq}
-pub use Rattle.std.proofs.Math.Seq.{drop-append_seam, get_or-append_seam, take-append-add, take-append_seam}
-pub use Rattle.std.proofs.lemmas.Bool.{cases_lt, eq-eqb, eqb-true}
-pub use Rattle.std.proofs.lemmas.Grind.{common_steps}
-pub use Rattle.std.proofs.lemmas.List.{append-nil, append_cancel_right, drop-append-le, drop_all, get_or_append_left, nil_from_length, take-append-le, take_all, take_at, take_more}
-pub use Rattle.std.proofs.lemmas.Option.{slice_get_past, slice_get_within}
+-- What the proofs of this crate cite of definitions, of types and of the repository's crates, passed on from one place. Declares nothing.
 pub use Rattle.definitions.specs.DocumentNodes.{AreDocumentTrees, IsNodeOf}
 pub use Rattle.definitions.specs.Items.{Accept, HasItem, HasMove, HasNoConflict, Move, Reduce, Shift}
 pub use Rattle.definitions.specs.Nodes.{Below, Past, StandsIn, Top, all_branches, branches, place_of}
 pub use Rattle.definitions.specs.Sentences.{AllProductive, FaultAt, FaultAtEnd, HasTree, IsTreeOf, IsVerdict, Verdict, Verdict as Answer}
 pub use Rattle.definitions.specs.Settled.{IsSettled, IsSettledIn}
 pub use Rattle.definitions.specs.TokenEdits.{Splice, plain_splice, spliced}
-pub use Rattle.definitions.specs.TreeEdits.{AreStampedExactly, Built, IsKept, IsMoved, IsTouched, Kept, LiesInKept, New, Nothing, Stamped, StampedBelow, StampedBranch, StampedCons, StampedForest, StampedIn, StampedLeaf, StampedNil, StampedPast, StampedTop, plain, plain as plain_tree, plain_all, plain_trees, stamped_trees}
+pub use Rattle.definitions.specs.TreeEdits.{AreStampedExactly, Built, IsKept, IsMoved, IsTouched, Kept, LiesInKept, New, Nothing, Stamped, StampedBelow, StampedBranch, StampedCons, StampedForest, StampedIn, StampedLeaf, StampedNil, StampedPast, StampedTop}
+pub use Rattle.definitions.specs.TreeEdits.{plain, plain as plain_tree, plain_all, plain_trees, stamped_trees}
 pub use Rattle.definitions.specs.Trees.{AreTrees, Branch, Cons, Forest, Grammar, HasProduction, HaveRoots, IsTree, Leaf, Nil, Tree, all_kinds, trees, yield, yields}
 pub use Rattle.definitions.specs.declared.Kind.{Kind}
 pub use Rattle.definitions.specs.declared.Kind.TheVariants.{Invalid, Rule, Rule as TokenRule}

@@ -1,5 +1,6 @@
 -- A parse in a compacted store is the parse that it was.
-use Rattle.parser.proofs.Common.{◌≡◌, List, [], ◌∷◌, sym, ap, subst, refl, ◌∙◌, head-eq_of_cons-eq, tail-eq_of_cons-eq, Kind, all_branches, HaveRoots, Stamped, StampedCons, plain_trees, IsVerdict, Child, Cell, all_trees, forest_in, forest_of, tree_of, trees_from, trees_of, Sets, IsStateOf, IsSameParse, plain_of, AreStacked, AreUpTo, IsParseOf, Stop, all_branches_by, verdict_in}
+use Rattle.parser.proofs.Std.{◌≡◌, List, [], ◌∷◌, sym, ap, subst, refl, ◌∙◌, head-eq_of_cons-eq, tail-eq_of_cons-eq}
+use Rattle.parser.proofs.Common.{Kind, all_branches, HaveRoots, Stamped, StampedCons, plain_trees, IsVerdict, Child, Cell, all_trees, forest_in, forest_of, tree_of, trees_from, trees_of, Sets, IsStateOf, IsSameParse, plain_of, AreStacked, AreUpTo, IsParseOf, Stop, all_branches_by, verdict_in}
 
 -- lists of the same trees are the same forests
 pub same_forest : (ts us : List Stamped) (cs ds : List Child) → trees_of ts cs ≡ trees_of us ds → forest_of ts cs ≡ forest_of us ds

@@ -1,5 +1,7 @@
 -- A shift makes no branch, and a reduction one. How many of a list's branches carry a number.
-use Rattle.parser.proofs.Common.{◌≡◌, ◌≢◌, ℕ, ◌+◌, Bool, true, false, List, [], ◌∷◌, ◌++◌, Option, ap, arith, refl, sym, ◌∙◌, ◌==◌, if◌then◌else◌, eq-eqb, eqb-true, Kind, Grammar, Tree, Branch, trees, all_branches, Stamped, StampedBranch, StampedCons, StampedForest, StampedLeaf, StampedNil, StampedIn, StampedBelow, StampedPast, StampedTop, plain, stamped_trees, Reduces, branches-append, branches-trees, branches_by, branches_of_by, all_branches_by, AreOlder}
+use Rattle.parser.proofs.Std.{◌≡◌, ◌≢◌, ℕ, ◌+◌, Bool, true, false, List, [], ◌∷◌, ◌++◌, Option, ap, arith, refl, sym, ◌∙◌, ◌==◌, if◌then◌else◌, eq-eqb, eqb-true}
+use Rattle.parser.proofs.Common.{Kind, Grammar, Tree, Branch, trees, all_branches, Stamped, StampedBranch, StampedCons, StampedForest, StampedLeaf, StampedNil, StampedIn, StampedBelow, StampedPast, StampedTop, plain, stamped_trees}
+use Rattle.parser.proofs.Common.{Reduces, branches-append, branches-trees, branches_by, branches_of_by, all_branches_by, AreOlder}
 use Rattle.parser.proofs.Stamping.{stamped_before}
 
 pub reduce_count : (g : Grammar) (stack : List Tree) (look : Option Kind) (stack' : List Tree) → Reduces g stack look stack' → all_branches stack' ≡ all_branches stack + 1

@@ -1,5 +1,7 @@
 -- What a cut of a list of trees keeps of them: their kinds, their nodes, and what holds of each.
-use Rattle.parser.proofs.Common.{◌≡◌, ◌⊎◌, ℕ, ◌+◌, ◌<◌, ◌≤◌, zero, suc, get_or, min, List, [], ◌∷◌, ◌++◌, length, refl, sym, ap, ◌∙◌, subst, inl, inr, ⊎_elim, arith, append_assoc, length-append, Grammar, Tree, Forest, Leaf, Branch, trees, yield, yields, all_kinds, StandsIn, Top, Below, Past, place_of, plain, plain_trees, stands_in_prefix, stands_after, closed, NodeId, Child, Node, Cell, AreBelow, all_trees, most, tree, trees_from, all_below-more, plain_of, AreParts, ComeFrom, AreOlder, kinds_in, AreChildren, IsSplitAt, Here, Used_up, Whole}
+use Rattle.parser.proofs.Std.{◌≡◌, ◌⊎◌, ℕ, ◌+◌, ◌<◌, ◌≤◌, zero, suc, get_or, min, List, [], ◌∷◌, ◌++◌, length, refl, sym, ap, ◌∙◌, subst, inl, inr, ⊎_elim, arith, append_assoc, length-append}
+use Rattle.parser.proofs.Common.{Grammar, Tree, Forest, Leaf, Branch, trees, yield, yields, all_kinds, StandsIn, Top, Below, Past, place_of, plain, plain_trees}
+use Rattle.parser.proofs.Common.{stands_in_prefix, stands_after, closed, NodeId, Child, Node, Cell, AreBelow, all_trees, most, tree, trees_from, all_below-more, plain_of, AreParts, ComeFrom, AreOlder, kinds_in, AreChildren, IsSplitAt, Here, Used_up, Whole}
 use Rattle.parser.specs.Cuts.{Opened}
 use Rattle.parser.proofs.LeftEdge.{branch_lighter, kinds_opened, open_parts, weight}
 use Rattle.parser.proofs.Reductions.{below-append, plain-append, plain-children, kids_of}

@@ -1,5 +1,6 @@
 -- The left edge of an input of no trees.
-use Rattle.parser.proofs.Common.{arith, ◌≡◌, ℕ, List, [], ◌∷◌, Option, None, refl, slice_get, length, Kind, Tree, Child, Cell, Sets, Next, IsInput, IsEdge}
+use Rattle.parser.proofs.Std.{arith, ◌≡◌, ℕ, List, [], ◌∷◌, Option, None, refl, slice_get, length}
+use Rattle.parser.proofs.Common.{Kind, Tree, Child, Cell, Sets, Next, IsInput, IsEdge}
 use Rattle.parser.proofs.WhereBranchesComeFrom.{come_all}
 
 pub none_counted : (xs : List Child) → length xs ≡ 0 → xs ≡ []

@@ -1,5 +1,8 @@
 -- An edit of the kinds: the old trees as an input, and what the stamps on the new ones show.
-use Rattle.parser.proofs.Common.{◌≡◌, ◌≢◌, ◌⊎◌, ◌+◌, ◌≤◌, length-append, ℕ, List, [], ◌∷◌, ◌++◌, length, take, drop, refl, sym, ap, ◌∙◌, subst, inl, inr, ⊎_elim, take-append-drop, arith, append-nil, drop-append_seam, Kind, Grammar, Tree, Branch, all_kinds, StandsIn, place_of, Verdict, HasTree, FaultAt, FaultAtEnd, IsVerdict, IsSettled, Splice, AreStampedExactly, Built, LiesInKept, Stamped, StampedForest, StampedIn, plain_all, plain_trees, AreAnswer, Goes_on, Ends, Reuses, Takes_token, Makes, IsPrepared, EachTaken, TakenIsKept, taken_is_kept, exact, made_or_taken, stamped_stands, TakesOver, kinds-append, nowhere, Child, Cell, most, all_trees, Sets, IsAccepted, leaves, IsInput, plain_of, AreStacked, IsParseOf, Stop, all_branches_by, last_leaf, verdict_in, AreStampedBy, IsMadeByRun, SoFar}
+use Rattle.parser.proofs.Std.{◌≡◌, ◌≢◌, ◌⊎◌, ◌+◌, ◌≤◌, length-append, ℕ, List, [], ◌∷◌, ◌++◌, length, take, drop, refl, sym, ap, ◌∙◌, subst, inl, inr, ⊎_elim, take-append-drop, arith, append-nil, drop-append_seam}
+use Rattle.parser.proofs.Common.{Kind, Grammar, Tree, Branch, all_kinds, StandsIn, place_of, Verdict, HasTree, FaultAt, FaultAtEnd, IsVerdict, IsSettled, Splice, AreStampedExactly, Built, LiesInKept, Stamped, StampedForest, StampedIn, plain_all, plain_trees}
+use Rattle.parser.proofs.Common.{AreAnswer, Goes_on, Ends, Reuses, Takes_token, Makes, IsPrepared, EachTaken, TakenIsKept, taken_is_kept, exact, made_or_taken, stamped_stands, TakesOver, kinds-append, nowhere, Child, Cell, most, all_trees, Sets, IsAccepted}
+use Rattle.parser.proofs.Common.{leaves, IsInput, plain_of, AreStacked, IsParseOf, Stop, all_branches_by, last_leaf, verdict_in, AreStampedBy, IsMadeByRun, SoFar}
 use Rattle.parser.proofs.Built.{built_counts}
 use Rattle.parser.proofs.LeftEdge.{roots_parts}
 use Rattle.parser.proofs.Running.{kinds_leaves}

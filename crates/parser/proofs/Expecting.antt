@@ -1,5 +1,6 @@
 -- What the state in which the machine stopped expects.
-use Rattle.parser.proofs.Common.{◌≡◌, ◌⊎◌, ℕ, List, take, Option, sym, subst, inl, inr, Kind, Symbol, Tree, HaveRoots, IsStackAfter, Cell, AreExpected, Sets, IsStateOf, TreeAt, StopsAt, StopsAtEnd, plain_of, Stop, IsParseOf, AreStacked, AreExpectedAt, verdict_in}
+use Rattle.parser.proofs.Std.{◌≡◌, ◌⊎◌, ℕ, List, take, Option, sym, subst, inl, inr}
+use Rattle.parser.proofs.Common.{Kind, Symbol, Tree, HaveRoots, IsStackAfter, Cell, AreExpected, Sets, IsStateOf, TreeAt, StopsAt, StopsAtEnd, plain_of, Stop, IsParseOf, AreStacked, AreExpectedAt, verdict_in}
 use Rattle.parser.specs.declared.parse.Verdict.{Verdict}
 use Rattle.parser.proofs.StopDecides.{settled_after}
 

@@ -1,5 +1,6 @@
 -- What is taken from the start of the input, and put back there.
-use Rattle.parser.proofs.Common.{◌≡◌, ℕ, ◌-◌, min, List, [], ◌∷◌, ◌++◌, length, Option, Some, None, MatchOption, refl, sym, ap, ◌∙◌, arith, append_assoc, tail-eq_of_cons-eq, head-eq_of_cons-eq, append-nil, all_kinds, yield, StampedBranch, plain, plain_all, kinds-append, kinds-trees, Child, Node, NodeId, Cell, AreBelow, most, tree, trees_from, forest_of, BeginsWith, IsFull, IsOpened, Skips, plain_of, nil_from_length}
+use Rattle.parser.proofs.Std.{◌≡◌, ℕ, ◌-◌, min, List, [], ◌∷◌, ◌++◌, length, Option, Some, None, MatchOption, refl, sym, ap, ◌∙◌, arith, append_assoc, tail-eq_of_cons-eq, head-eq_of_cons-eq, append-nil, nil_from_length}
+use Rattle.parser.proofs.Common.{all_kinds, yield, StampedBranch, plain, plain_all, kinds-append, kinds-trees, Child, Node, NodeId, Cell, AreBelow, most, tree, trees_from, forest_of, BeginsWith, IsFull, IsOpened, Skips, plain_of}
 use Rattle.parser.proofs.Reductions.{plain-append, plain-children}
 
 pub taken : (r : Option Child) (old new rest : List Child) (c : Child) → MatchOption r ((old ≡ []) × (new ≡ [])) (λ x. old ≡ x ∷ new) → old ≡ c ∷ rest → old ≡ c ∷ new

@@ -1,5 +1,7 @@
 -- The left edge of the input, opened step by step.
-use Rattle.parser.proofs.Common.{◌≡◌, ℕ, ◌+◌, ◌<◌, ◌≤◌, zero, suc, List, [], ◌∷◌, ◌++◌, length, drop, refl, sym, ap, ◌∙◌, subst, arith, append_assoc, length-append, length-drop, Kind, Symbol, Terminal, Nonterminal, Grammar, Tree, Leaf, Branch, Forest, Nil, Cons, trees, IsTree, AreTrees, HaveRoots, yield, yields, all_kinds, branches, all_branches, StampedBranch, plain, plain_all, kinds-append, kinds-trees, branches-append, branches-trees, CanReuse, Tries, Dropped, Opened, Child, NodeId, Node, Cell, tree, trees_from, forest_of, plain_of, leaves, before_leaves, AreParts, IsPart, Offers, nil_from_length}
+use Rattle.parser.proofs.Std.{◌≡◌, ℕ, ◌+◌, ◌<◌, ◌≤◌, zero, suc, List, [], ◌∷◌, ◌++◌, length, drop, refl, sym, ap, ◌∙◌, subst, arith, append_assoc, length-append, length-drop, nil_from_length}
+use Rattle.parser.proofs.Common.{Kind, Symbol, Terminal, Nonterminal, Grammar, Tree, Leaf, Branch, Forest, Nil, Cons, trees, IsTree, AreTrees, HaveRoots, yield, yields, all_kinds, branches, all_branches, StampedBranch, plain, plain_all}
+use Rattle.parser.proofs.Common.{kinds-append, kinds-trees, branches-append, branches-trees, CanReuse, Tries, Dropped, Opened, Child, NodeId, Node, Cell, tree, trees_from, forest_of, plain_of, leaves, before_leaves, AreParts, IsPart, Offers}
 use Rattle.parser.proofs.Reductions.{plain-append, plain-children}
 
 -- how much there is to open or to drop

@@ -1,4 +1,5 @@
 pub mod Common
+pub mod Std
 pub mod Reductions
 pub mod Moves
 pub mod Stamps

@@ -1,5 +1,7 @@
 -- A list read from its end.
-use Rattle.parser.proofs.Common.{◌≡◌, ◌↔◌, ⊎_elim, IsSome, Option, Some, None, MatchOption, option_to_list, ℕ, ◌-◌, ◌<◌, ◌≤◌, suc, List, [], ◌∷◌, ◌++◌, length, take, drop, get_or, refl, sym, ap, ◌∙◌, arith, append_assoc, length-append, take-append-drop, length-drop, append-nil, drop-append_seam, cases_lt, backwards}
+use Rattle.parser.proofs.Std.{◌≡◌, ◌↔◌, ⊎_elim, IsSome, Option, Some, None, MatchOption, option_to_list, ℕ, ◌-◌, ◌<◌, ◌≤◌, suc, List, [], ◌∷◌, ◌++◌, length, take, drop, get_or, refl, sym, ap, ◌∙◌}
+use Rattle.parser.proofs.Std.{arith, append_assoc, length-append, take-append-drop, length-drop, append-nil, drop-append_seam, cases_lt}
+use Rattle.parser.proofs.Common.{backwards}
 
 pub backwards-append : {A : Type 0} → (xs ys : List A) → backwards (xs ++ ys) ≡ backwards ys ++ backwards xs
 backwards-append [] ys = sym (append-nil (backwards ys))

@@ -1,5 +1,6 @@
 -- What a move of the machine makes of how far it has come.
-use Rattle.parser.proofs.Common.{◌≡◌, ℕ, ◌-◌, ◌<◌, ◌≤◌, List, [], ◌∷◌, ◌++◌, length, take, get_or, slice_get, Option, sym, ap, ◌∙◌, subst, arith, length-append, ⊎_elim, cases_lt, append-nil, take-append-le, get_or_append_left, take_all, get_or-append_seam, Kind, Symbol, Grammar, Tree, Leaf, HaveRoots, Run, Stay, Shifted, IsStackAfter, run_join, Child, Cell, AreBelow, Sets, IsStateOf, plain_of, HasStates}
+use Rattle.parser.proofs.Std.{◌≡◌, ℕ, ◌-◌, ◌<◌, ◌≤◌, List, [], ◌∷◌, ◌++◌, length, take, get_or, slice_get, Option, sym, ap, ◌∙◌, subst, arith, length-append, ⊎_elim, cases_lt, append-nil, take-append-le, get_or_append_left, take_all, get_or-append_seam}
+use Rattle.parser.proofs.Common.{Kind, Symbol, Grammar, Tree, Leaf, HaveRoots, Run, Stay, Shifted, IsStackAfter, run_join, Child, Cell, AreBelow, Sets, IsStateOf, plain_of, HasStates}
 
 -- the state on top stands for the whole stack
 pub top_stands : (t : Sets) (stack : List Tree) (states : List ℕ) (h : HasStates t stack states) → IsStateOf t h.symbols (get_or states (length states - 1) 0)

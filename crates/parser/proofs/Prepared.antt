@@ -1,5 +1,6 @@
 -- The old trees, with the new kinds between the parts that a splice leaves of them.
-use Rattle.parser.proofs.Common.{◌≡◌, ◌≢◌, ◌⊎◌, ℕ, ◌+◌, ◌-◌, ◌<◌, ◌≤◌, List, [], ◌∷◌, ◌++◌, length, refl, sym, ap, ◌∙◌, subst, inl, inr, ⊎_elim, arith, head-eq_of_cons-eq, tail-eq_of_cons-eq, cases_lt, append-nil, Kind, Tree, Forest, Leaf, Branch, yields, all_kinds, StandsIn, Top, Below, Past, place_of, Splice, IsKept, IsMoved, IsTouched, IsPrepared, nowhere, stands_after, stands_in_prefix, stands_split, stands_length, Child, Cell, plain_of, leaves, IsSplitAt}
+use Rattle.parser.proofs.Std.{◌≡◌, ◌≢◌, ◌⊎◌, ℕ, ◌+◌, ◌-◌, ◌<◌, ◌≤◌, List, [], ◌∷◌, ◌++◌, length, refl, sym, ap, ◌∙◌, subst, inl, inr, ⊎_elim, arith, head-eq_of_cons-eq, tail-eq_of_cons-eq, cases_lt, append-nil}
+use Rattle.parser.proofs.Common.{Kind, Tree, Forest, Leaf, Branch, yields, all_kinds, StandsIn, Top, Below, Past, place_of, Splice, IsKept, IsMoved, IsTouched, IsPrepared, nowhere, stands_after, stands_in_prefix, stands_split, stands_length, Child, Cell, plain_of, leaves, IsSplitAt}
 use Rattle.parser.proofs.Running.{kinds_leaves}
 use Rattle.parser.proofs.WhereBranchesComeFrom.{place-append}
 use Rattle.parser.proofs.Cuts.{cut_from, cut_keeps, cut_kinds}

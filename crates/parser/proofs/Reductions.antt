@@ -1,5 +1,8 @@
 -- A reduction puts one tree in the place of those of its production's right side, and there is a state to go to.
-use Rattle.parser.proofs.Common.{◌≡◌, ℕ, ◌+◌, ◌-◌, ◌<◌, ◌≤◌, zero, suc, List, [], ◌∷◌, ◌++◌, length, take, drop, get_or, Option, refl, sym, ap, ◌∙◌, subst, arith, length-append, length-take, length-drop, take-append-drop, ⊎_elim, cases_lt, take-append-le, get_or_append_left, take_all, get_or-append_seam, Kind, Symbol, Nonterminal, Grammar, Tree, Branch, Forest, trees, HasProduction, HaveRoots, plain, plain_all, plain_trees, Stamped, HasMove, Reduce, Reduces, roots_unique, length-roots, Handle, NodeId, Child, Node, Cell, AreBelow, IsGrown, tree, tree_of, trees_of, trees_from, forest_of, grown-tree, grown-new, Sets, IsStateOf, plain_of, HasStates, HasMade}
+use Rattle.parser.proofs.Std.{◌≡◌, ℕ, ◌+◌, ◌-◌, ◌<◌, ◌≤◌, zero, suc, List, [], ◌∷◌, ◌++◌, length, take, drop, get_or, Option, refl, sym, ap, ◌∙◌, subst, ⊎_elim}
+use Rattle.parser.proofs.Std.{arith, length-append, length-take, length-drop, take-append-drop, cases_lt, take-append-le, get_or_append_left, take_all, get_or-append_seam}
+use Rattle.parser.proofs.Common.{Kind, Symbol, Nonterminal, Grammar, Tree, Branch, Forest, trees, HasProduction, HaveRoots, plain, plain_all, plain_trees, Stamped, HasMove, Reduce}
+use Rattle.parser.proofs.Common.{Reduces, roots_unique, length-roots, Handle, NodeId, Child, Node, Cell, AreBelow, IsGrown, tree, tree_of, trees_of, trees_from, forest_of, grown-tree, grown-new, Sets, IsStateOf, plain_of, HasStates, HasMade}
 
 pub plain-length : (cells : List Cell) (cs : List Child) → length (plain_of cells cs) ≡ length cs
 plain-length cells [] = refl

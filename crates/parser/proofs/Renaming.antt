@@ -1,5 +1,6 @@
 -- Children that are renamed mean what they meant.
-use Rattle.parser.proofs.Common.{refl, sym, ap, ◌++◌, take, arith, ◌≡◌, ℕ, suc, ◌+◌, List, [], ◌∷◌, length, take_at, head-eq_of_cons-eq, tail-eq_of_cons-eq, branches, StampedLeaf, plain, NodeId, Child, Token, Node, Cell, AreBelow, all_trees, tree, nodes, sizes, HasTree, Halt, Accepted, node_ids, renamed, verdict_in, verdict_of}
+use Rattle.parser.proofs.Std.{refl, sym, ap, ◌++◌, take, arith, ◌≡◌, ℕ, suc, ◌+◌, List, [], ◌∷◌, length, take_at, head-eq_of_cons-eq, tail-eq_of_cons-eq}
+use Rattle.parser.proofs.Common.{branches, StampedLeaf, plain, NodeId, Child, Token, Node, Cell, AreBelow, all_trees, tree, nodes, sizes, HasTree, Halt, Accepted, node_ids, renamed, verdict_in, verdict_of}
 
 pub renamed_trees : (old new : List Cell) (cs : List Child) (names : List NodeId) → all_trees new (nodes names) ≡ all_trees old (nodes (node_ids cs))
     → all_trees new (renamed cs names) ≡ all_trees old cs

@@ -1,5 +1,7 @@
 -- The children that a splice leaves, with the new kinds between them, are an input for the kinds after the splice.
-use Rattle.parser.proofs.Common.{◌≡◌, ◌≢◌, ◌⊎◌, ℕ, ◌+◌, ◌-◌, ◌<◌, ◌≤◌, List, [], ◌∷◌, ◌++◌, length, take, drop, map, refl, sym, ap, ◌∙◌, subst, inl, inr, ⊎_elim, arith, append_assoc, length-append, take-append-drop, drop-append_seam, take-append_seam, take-append-add, cases_lt, append-nil, Kind, Grammar, Tree, Branch, Leaf, all_kinds, plain_all, plain_trees, StampedForest, StampedIn, StandsIn, place_of, Splice, spliced, IsPrepared, stamped_stands, stands_length, kinds-append, Child, Token, Cell, AreBelow, all_trees, trees_from, plain_of, AreParts, IsInput, before_leaves, input_of, leaves, MoveFrom, AreOlder, IsSplitAt}
+use Rattle.parser.proofs.Std.{◌≡◌, ◌≢◌, ◌⊎◌, ℕ, ◌+◌, ◌-◌, ◌<◌, ◌≤◌, List, [], ◌∷◌, ◌++◌, length, take, drop, map, refl, sym, ap, ◌∙◌, subst, inl, inr, ⊎_elim, arith, append_assoc, length-append, take-append-drop, drop-append_seam, take-append_seam, take-append-add, cases_lt, append-nil}
+use Rattle.parser.proofs.Common.{Kind, Grammar, Tree, Branch, Leaf, all_kinds, plain_all, plain_trees, StampedForest, StampedIn, StandsIn, place_of, Splice, spliced}
+use Rattle.parser.proofs.Common.{IsPrepared, stamped_stands, stands_length, kinds-append, Child, Token, Cell, AreBelow, all_trees, trees_from, plain_of, AreParts, IsInput, before_leaves, input_of, leaves, MoveFrom, AreOlder, IsSplitAt}
 use Rattle.parser.proofs.Running.{kinds_leaves}
 use Rattle.parser.proofs.LeftEdge.{parts-append}
 use Rattle.parser.proofs.Reductions.{below-append, plain-append}

@@ -1,5 +1,7 @@
 -- What the answers of the tables say of the test that a tree is taken over by.
-use Rattle.parser.proofs.Common.{is_some, Kind, Symbol, Nonterminal, Grammar, Tree, HaveRoots, HasProduction, IsTree, AreTrees, yield, Stamped, StampedBranch, StampedForest, plain, plain_all, HasMove, HasItem, look_at, CanReuse, roots_unique, root_unique, production_unique, most, TableMove, plain_move, Sets, IsStateOf, IsAction, HasStates, ◌^◌, min, true, false, ◌≡◌, ℕ, ◌-◌, ◌<◌, List, [], ◌∷◌, ◌++◌, length, drop, get_or, slice_get, zero, suc, Option, Some, None, refl, sym, ap, ◌∙◌, subst, arith}
+use Rattle.parser.proofs.Std.{is_some, ◌^◌, min, true, false, ◌≡◌, ℕ, ◌-◌, ◌<◌, List, [], ◌∷◌, ◌++◌, length, drop, get_or, slice_get, zero, suc, Option, Some, None, refl, sym, ap, ◌∙◌, subst, arith}
+use Rattle.parser.proofs.Common.{Kind, Symbol, Nonterminal, Grammar, Tree, HaveRoots, HasProduction, IsTree, AreTrees, yield, Stamped, StampedBranch, StampedForest, plain, plain_all, HasMove, HasItem}
+use Rattle.parser.proofs.Common.{look_at, CanReuse, roots_unique, root_unique, production_unique, most, TableMove, plain_move, Sets, IsStateOf, IsAction, HasStates}
 use Rattle.parser.proofs.Moves.{top_stands}
 
 pub look_drop : (ks : List Kind) (i : ℕ) → slice_get ks i ≡ look_at (drop i ks) None

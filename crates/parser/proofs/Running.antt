@@ -1,5 +1,10 @@
 -- What a move of the machine makes of how far the run has come.
-use Rattle.parser.proofs.Common.{◌≡◌, ◌↔◌, inl, ⊎_elim, ℕ, ◌+◌, ◌<◌, zero, suc, List, [], ◌∷◌, ◌++◌, length, take, drop, slice_get, Option, Some, None, MatchOption, refl, sym, ap, ◌∙◌, subst, arith, length-append, take-append-drop, get_or, append_cancel_right, head-eq_of_cons-eq, Kind, Terminal, Nonterminal, Grammar, Tree, Leaf, Branch, HaveRoots, yield, all_kinds, StampedBranch, StampedLeaf, plain, plain_all, AllProductive, HasMove, Shift, Reduce, look_at, Reduces, Shifts, Run, IsStackAfter, NextInput, Take, AtToken, AtEnd, IsNoTree, CanReuse, Tries, Nothing_left, Passed, At_token, Goes_on, Ends, Reuses, Takes_token, Makes, MakesAt, goes_on_passes, ends_equal, goes_on_join, roots-append, last_of, run_split, NodeId, Child, TokenChild, Node, Cell, AreBelow, all_trees, forest_in, tree, trees_from, all_below-more, Sets, IsStateOf, plain_of, HasStates, HasMade, leaves, input_of, AreParts, IsInput, Skips, Offers, IsReusable, BeginsWithNoNode, AreUpTo, all_branches_by, makes, AreStampedBy, ComeFrom, SoFar, AreOlder, Rule as Token}
+use Rattle.parser.proofs.Std.{◌≡◌, ◌↔◌, inl, ⊎_elim, ℕ, ◌+◌, ◌<◌, zero, suc, List, [], ◌∷◌, ◌++◌, length, take, drop, slice_get, Option, Some, None, MatchOption, refl, sym, ap, ◌∙◌, subst, arith, length-append, take-append-drop, get_or, append_cancel_right, head-eq_of_cons-eq}
+use Rattle.parser.proofs.Common.{Kind, Terminal, Nonterminal, Grammar, Tree, Leaf, Branch, HaveRoots, yield, all_kinds, StampedBranch, StampedLeaf, plain, plain_all, AllProductive, HasMove, Shift, Reduce, Rule as Token}
+use Rattle.parser.proofs.Common.{look_at, Reduces, Shifts, Run, IsStackAfter, NextInput, Take, AtToken, AtEnd, IsNoTree, CanReuse, Tries, Nothing_left, Passed, At_token, Goes_on, Ends, Reuses, Takes_token, Makes, MakesAt, goes_on_passes, ends_equal, goes_on_join, roots-append, last_of, run_split}
+use Rattle.parser.proofs.Common.{NodeId, Child, TokenChild, Node, Cell, AreBelow, all_trees, forest_in, tree, trees_from, all_below-more}
+use Rattle.parser.proofs.Common.{Sets, IsStateOf}
+use Rattle.parser.proofs.Common.{plain_of, HasStates, HasMade, leaves, input_of, AreParts, IsInput, Skips, Offers, IsReusable, BeginsWithNoNode, AreUpTo, all_branches_by, makes, AreStampedBy, ComeFrom, SoFar, AreOlder}
 use Rattle.parser.proofs.WhereBranchesComeFrom.{come_after, come_older}
 use Rattle.parser.proofs.Counts.{by-append, by-branch, by-none}
 use Rattle.parser.proofs.LeftEdge.{after_drop, dropped, first_fits}

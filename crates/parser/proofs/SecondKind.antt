@@ -1,5 +1,6 @@
 -- The kind with which trees begin, where it is found a few steps from their start.
-use Rattle.parser.proofs.Common.{◌≡◌, ℕ, ◌+◌, List, [], ◌∷◌, ◌++◌, length, drop, slice_get, Option, Some, None, IfSome, sym, ap, ◌∙◌, append_assoc, tail-eq_of_cons-eq, Kind, all_kinds, yield, StampedBranch, plain, kinds-append, Child, Node, NodeId, Cell, tree, trees_from, forest_of, input_of, leaves, plain_of}
+use Rattle.parser.proofs.Std.{◌≡◌, ℕ, ◌+◌, List, [], ◌∷◌, ◌++◌, length, drop, slice_get, Option, Some, None, IfSome, sym, ap, ◌∙◌, append_assoc, tail-eq_of_cons-eq}
+use Rattle.parser.proofs.Common.{Kind, all_kinds, yield, StampedBranch, plain, kinds-append, Child, Node, NodeId, Cell, tree, trees_from, forest_of, input_of, leaves, plain_of}
 use Rattle.parser.proofs.LeftEdge.{after_drop}
 use Rattle.parser.proofs.Inputs.{kids_kinds}
 use Rattle.parser.proofs.Reusing.{look_first}

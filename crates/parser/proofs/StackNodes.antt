@@ -1,5 +1,6 @@
 -- The nodes and the kinds of what stands on the stack.
-use Rattle.parser.proofs.Common.{◌≡◌, ◌↔◌, ◌⊎◌, ℕ, ◌≤◌, List, [], ◌∷◌, ◌++◌, length, take, drop, refl, sym, ap, ◌∙◌, subst, inl, inr, ⊎_elim, arith, length-append, take-append-drop, append-nil, Kind, Grammar, Tree, Forest, Leaf, Branch, all_kinds, yield, Verdict, HasTree, FaultAt, FaultAtEnd, IsVerdict, IsSettled, StandsIn, IsNodeOf, stands_split, not_in_leaf, kinds-append, nowhere, stands_in_prefix, AreStacked, last_leaf}
+use Rattle.parser.proofs.Std.{◌≡◌, ◌↔◌, ◌⊎◌, ℕ, ◌≤◌, List, [], ◌∷◌, ◌++◌, length, take, drop, refl, sym, ap, ◌∙◌, subst, inl, inr, ⊎_elim, arith, length-append, take-append-drop, append-nil}
+use Rattle.parser.proofs.Common.{Kind, Grammar, Tree, Forest, Leaf, Branch, all_kinds, yield, Verdict, HasTree, FaultAt, FaultAtEnd, IsVerdict, IsSettled, StandsIn, IsNodeOf, stands_split, not_in_leaf, kinds-append, nowhere, stands_in_prefix, AreStacked, last_leaf}
 use Rattle.definitions.specs.Answers.{Node}
 use Rattle.parser.proofs.StopDecides.{last-append}
 

@@ -1,5 +1,7 @@
 -- The stamps that a run leaves: of the branches on its stack, those that it has made carry its number.
-use Rattle.parser.proofs.Common.{◌≡◌, ◌↔◌, ◌⊎◌, ◌≤◌, ℕ, List, [], ◌∷◌, ◌++◌, refl, sym, ap, ◌∙◌, subst, inl, inr, ⊎_elim, arith, append-nil, head-eq_of_cons-eq, tail-eq_of_cons-eq, Kind, Grammar, Tree, Branch, trees, all_kinds, StandsIn, branches, all_branches, Stamped, StampedLeaf, StampedBranch, StampedForest, StampedNil, StampedCons, plain, plain_all, stamped_trees, plain_trees, StampedIn, StampedTop, StampedBelow, StampedPast, Take, CanReuse, Tries, Goes_on, Ends, Reuses, Takes_token, Makes, MakesAt, goes_on_join, join_makes, join_takes, not_both, stamped_stands, stands_branches, branches-trees, Child, tree_of, trees_of, forest_of, IsMadeBy, AreMadeBy, AreUpTo, AreStampedBy, AreOlder}
+use Rattle.parser.proofs.Std.{◌≡◌, ◌↔◌, ◌⊎◌, ◌≤◌, ℕ, List, [], ◌∷◌, ◌++◌, refl, sym, ap, ◌∙◌, subst, inl, inr, ⊎_elim, arith, append-nil, head-eq_of_cons-eq, tail-eq_of_cons-eq}
+use Rattle.parser.proofs.Common.{Kind, Grammar, Tree, Branch, trees, all_kinds, StandsIn, branches, all_branches, Stamped, StampedLeaf, StampedBranch, StampedForest, StampedNil, StampedCons, plain, plain_all, stamped_trees, plain_trees, StampedIn, StampedTop, StampedBelow, StampedPast}
+use Rattle.parser.proofs.Common.{Take, CanReuse, Tries, Goes_on, Ends, Reuses, Takes_token, Makes, MakesAt, goes_on_join, join_makes, join_takes, not_both, stamped_stands, stands_branches, branches-trees, Child, tree_of, trees_of, forest_of, IsMadeBy, AreMadeBy, AreUpTo, AreStampedBy, AreOlder}
 
 -- a stamped branch of two lists joined
 pub stamped_split : (one two : List Stamped) {lefts : List Tree} {p born : ℕ} {us : StampedForest} → StampedIn (one ++ two) lefts p born us

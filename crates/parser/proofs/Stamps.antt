@@ -1,5 +1,6 @@
 -- The stamped trees of children, where the input is opened and where the store grows.
-use Rattle.parser.proofs.Common.{◌≡◌, ℕ, ◌+◌, ◌<◌, ◌≤◌, zero, suc, List, [], ◌∷◌, ◌++◌, length, take, refl, sym, ap, ◌∙◌, subst, arith, length-append, StampedBranch, Child, Node, Cell, AreBelow, IsGrown, KeepsTrees, tree, trees_from, all_trees, forest_of, forest_in, NodeId, grown-new, grown-tree, all_below-more, take-tree, HasMade}
+use Rattle.parser.proofs.Std.{◌≡◌, ℕ, ◌+◌, ◌<◌, ◌≤◌, zero, suc, List, [], ◌∷◌, ◌++◌, length, take, refl, sym, ap, ◌∙◌, subst, arith, length-append}
+use Rattle.parser.proofs.Common.{StampedBranch, Child, Node, Cell, AreBelow, IsGrown, KeepsTrees, tree, trees_from, all_trees, forest_of, forest_in, NodeId, grown-new, grown-tree, all_below-more, take-tree, HasMade}
 use Rattle.parser.proofs.Stamping.{trees_of-append}
 use Rattle.parser.proofs.Reductions.{below-append, below-prefix}
 

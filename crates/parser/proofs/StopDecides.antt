@@ -1,5 +1,8 @@
 -- What follows from the place where the machine stops.
-use Rattle.parser.proofs.Common.{◌≡◌, ℕ, ◌<◌, ◌≤◌, zero, suc, List, [], ◌∷◌, ◌++◌, length, take, drop, slice_get, Option, Some, None, refl, sym, ap, ◌∙◌, subst, arith, length-take, take_all, slice_get_past, Kind, TokenRule, Invalid, Nonterminal, Grammar, Tree, Leaf, IsTree, all_kinds, plain, IsVerdict, IsTreeOf, AllProductive, FaultAt, IsSettledIn, IsSettled, Move, HasMove, HasNoConflict, Accept, Run, IsStackAfter, StackHasMove, roots_unique, accepted_tree, read_settled, settled_run, verdict_at_kind, verdict_at_end, stuck_at_kind, stuck_at_end, NodeId, Child, Token, Node, Cell, tree, Sets, IsAccepted, TreeAt, StopsAt, StopsAtEnd, Accepted, HaltsAt, HaltsAtEnd, plain_of, AreDocumentTrees, Answer, AreStacked, IsStoppedAt, before_fault, last_leaf, verdict_of}
+use Rattle.parser.proofs.Std.{◌≡◌, ℕ, ◌<◌, ◌≤◌, zero, suc, List, [], ◌∷◌, ◌++◌, length, take, drop, slice_get, Option, Some, None, refl, sym, ap, ◌∙◌, subst, arith, length-take, take_all, slice_get_past}
+use Rattle.parser.proofs.Common.{Kind, TokenRule, Invalid, Nonterminal, Grammar, Tree, Leaf, IsTree, all_kinds, plain, IsVerdict, IsTreeOf, AllProductive, FaultAt, IsSettledIn, IsSettled, Move, HasMove, HasNoConflict, Accept, AreDocumentTrees, Answer}
+use Rattle.parser.proofs.Common.{Run, IsStackAfter, StackHasMove, roots_unique, accepted_tree, read_settled, settled_run, verdict_at_kind, verdict_at_end, stuck_at_kind, stuck_at_end, NodeId, Child, Token, Node, Cell, tree, Sets, IsAccepted}
+use Rattle.parser.proofs.Common.{TreeAt, StopsAt, StopsAtEnd, Accepted, HaltsAt, HaltsAtEnd, plain_of, AreStacked, IsStoppedAt, before_fault, last_leaf, verdict_of}
 use Rattle.parser.proofs.Moves.{Reached, top_stands, run_on}
 
 pub last-append : (before : List Kind) (last : Kind) → last_leaf (before ++ (last ∷ [])) ≡ Leaf last ∷ []

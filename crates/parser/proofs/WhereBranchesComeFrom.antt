@@ -1,5 +1,8 @@
 -- Where the branches that the machine takes over come from, and which ones it adds.
-use Rattle.parser.proofs.Common.{◌≡◌, ◌≢◌, ℕ, ◌+◌, ◌<◌, ◌≤◌, Bool, true, false, List, [], ◌∷◌, ◌++◌, length, drop, refl, sym, ap, ◌∙◌, subst, ⊎_elim, arith, length-append, append_assoc, ◌==◌, if◌then◌else◌, eq-eqb, append-nil, drop-append-le, drop_all, Kind, Tree, Branch, yield, yields, all_kinds, place_of, Splice, IsMoved, Stamped, StampedLeaf, StampedBranch, StampedForest, StampedNil, StampedCons, StampedIn, StampedTop, StampedBelow, StampedPast, plain, plain_all, stamped_trees, plain_trees, kinds-append, kinds-trees, NodeId, Child, Token, Node, Cell, AreBelow, all_trees, branch_of, forest_in, forest_of, tree, trees_from, from-length, grown-trees, Skips, HasMade, plain_of, CameFrom, ComeFrom, MoveFrom, AreOlder, KeepStamps, all_numbered, numbered, numbered_in}
+use Rattle.parser.proofs.Std.{◌≡◌, ◌≢◌, ℕ, ◌+◌, ◌<◌, ◌≤◌, Bool, true, false, List, [], ◌∷◌, ◌++◌, length, drop, refl, sym, ap, ◌∙◌, subst, ⊎_elim, arith, length-append, append_assoc, ◌==◌, if◌then◌else◌, eq-eqb, append-nil, drop-append-le, drop_all}
+use Rattle.parser.proofs.Common.{Kind, Tree, Branch, yield, yields, all_kinds, place_of, Splice, IsMoved, Stamped, StampedLeaf, StampedBranch, StampedForest, StampedNil, StampedCons, StampedIn, StampedTop, StampedBelow, StampedPast, plain, plain_all, stamped_trees, plain_trees}
+use Rattle.parser.proofs.Common.{kinds-append, kinds-trees, NodeId, Child, Token, Node, Cell, AreBelow, all_trees, branch_of, forest_in, forest_of, tree, trees_from, from-length, grown-trees}
+use Rattle.parser.proofs.Common.{Skips, HasMade, plain_of, CameFrom, ComeFrom, MoveFrom, AreOlder, KeepStamps, all_numbered, numbered, numbered_in}
 use Rattle.parser.proofs.Counts.{HaveNone}
 use Rattle.parser.proofs.Reductions.{below-prefix, plain-append}
 use Rattle.parser.proofs.Stamping.{in_branch, InBranch, Itself, Under, no_branch_in_leaf, nowhere_stamped, plain-stamped, stamped-children, stamped_after, stamped_before, stamped_split, trees_of-append}

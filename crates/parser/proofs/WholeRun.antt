@@ -1,5 +1,8 @@
 -- A run on kinds alone takes nothing over: it makes each branch of its stack.
-use Rattle.parser.proofs.Common.{◌≡◌, ℕ, ◌+◌, List, [], ◌∷◌, refl, sym, ap, ◌∙◌, subst, ⊎_elim, arith, length, None, head-eq_of_cons-eq, tail-eq_of_cons-eq, Kind, Invalid, Nonterminal, Grammar, Tree, Leaf, Branch, Forest, IsTree, yield, all_kinds, StampedIn, plain_all, StandsIn, all_branches, NextInput, Take, AtToken, AtEnd, Tries, Nothing_left, Dropped, Passed, Opened, At_token, Goes_on, Ends, Reuses, Takes_token, Makes, MakesAt, look_at, made_or_taken, stamped_stands, TakesOver, branches-append, nowhere, Child, Cell, forest_in, trees_from, Sets, leaves, plain_of, AreMadeBy, makes, IsMadeByRun, SoFar, Rule as Token}
+use Rattle.parser.proofs.Std.{◌≡◌, ℕ, ◌+◌, List, [], ◌∷◌, refl, sym, ap, ◌∙◌, subst, ⊎_elim, arith, length, None, head-eq_of_cons-eq, tail-eq_of_cons-eq}
+use Rattle.parser.proofs.Common.{Kind, Invalid, Nonterminal, Grammar, Tree, Leaf, Branch, Forest, IsTree, yield, all_kinds, StampedIn, plain_all, StandsIn, all_branches, Rule as Token}
+use Rattle.parser.proofs.Common.{NextInput, Take, AtToken, AtEnd, Tries, Nothing_left, Dropped, Passed, Opened, At_token, Goes_on, Ends, Reuses, Takes_token, Makes, MakesAt, look_at, made_or_taken, stamped_stands, TakesOver, branches-append, nowhere, Child, Cell, forest_in, trees_from, Sets}
+use Rattle.parser.proofs.Common.{leaves, plain_of, AreMadeBy, makes, IsMadeByRun, SoFar}
 use Rattle.parser.proofs.Counts.{reduce_count}
 use Rattle.parser.proofs.Stamping.{made_forest, stamped-children}
 

@@ -1,5 +1,6 @@
 -- Blanks before a part and after it.
-use Rattle.patterns.proofs.Common.{◌≡◌, ℕ, ◌≤◌, List, [], ◌∷◌, ◌++◌, length, refl, sym, ◌∙◌, ap, subst, inl, inr, append_assoc, arith, append-nil, AllByRecursion, Expression, Written, Before, Nothing, Outside, fault_from, IsBlank, Level, SpellsAt, blank_before, blank_after, Character, writing, HasNoBlank, IsBlankAt, IsBlanks, IsPart, IsRead}
+use Rattle.patterns.proofs.Std.{◌≡◌, ℕ, ◌≤◌, List, [], ◌∷◌, ◌++◌, length, refl, sym, ◌∙◌, ap, subst, inl, inr, append_assoc, arith, append-nil, AllByRecursion}
+use Rattle.patterns.proofs.Common.{Expression, Written, Before, Nothing, Outside, fault_from, IsBlank, Level, SpellsAt, blank_before, blank_after, Character, writing, HasNoBlank, IsBlankAt, IsBlanks, IsPart, IsRead}
 use Rattle.patterns.proofs.Literals.{by_plain}
 
 all_after : (P : Written → Type 0) (us : List Written) (w : Written) → AllByRecursion P us → P w → AllByRecursion P (us ++ w ∷ [])

@@ -1,4 +1,5 @@
 pub mod Common
+pub mod Std
 pub mod Blanks
 pub mod Literals
 pub mod Readings

@@ -1,5 +1,7 @@
 -- Literals and classes that are read so far.
-use Rattle.patterns.proofs.Common.{◌≡◌, ◌≢◌, ◌⊎◌, inl, inr, ℕ, ◌==◌, Bool, true, false, List, [], ◌∷◌, ◌++◌, Some, refl, sym, ◌∙◌, ap, subst, append_assoc, arith, list_all, append-nil, list_all-append, nat_tests, Interval, Syntax, Written, Plain, Escaped, BadEscape, InLiteral, InClass, Items, First, Dash, Opened, fault_from, or_later, char_in_class, IsSign, IsLiteralChar, IsLiteralRest, IsClassChar, IsClassRest, IsLiteralPrefix, IsClassPrefix, IsItemPrefix, Begins, HasNoClassChar, place, place_of, HasNoLiteralChar, is_empty, IsCaret, IsClassBody, is_nothing, closed, EmptyClass, Outside, AnAtom}
+use Rattle.patterns.proofs.Std.{◌≡◌, ◌≢◌, ◌⊎◌, inl, inr, ℕ, ◌==◌, Bool, true, false, List, [], ◌∷◌, ◌++◌, Some, refl, sym, ◌∙◌, ap, subst, append_assoc, arith, list_all, append-nil, list_all-append, nat_tests}
+use Rattle.patterns.proofs.Common.{Interval, Syntax, Written, Plain, Escaped, BadEscape, InLiteral, InClass, Items, First, Dash, Opened, fault_from, or_later, char_in_class, IsSign, IsLiteralChar, IsLiteralRest, IsClassChar, IsClassRest, is_nothing, closed, EmptyClass, Outside, AnAtom}
+use Rattle.patterns.proofs.Common.{IsLiteralPrefix, IsClassPrefix, IsItemPrefix, Begins, HasNoClassChar, place, place_of, HasNoLiteralChar, is_empty, IsCaret, IsClassBody}
 
 -- what holds of a sign that is written as itself holds of each word that is that sign
 pub by_plain : (P : Written → Type 0) (c : ℕ) (w : Written) → ((o : ℕ) → P (Plain o c)) → IsSign c w → P w

@@ -1,5 +1,6 @@
 -- A text and the characters that it writes.
-use Rattle.patterns.proofs.Common.{◌≡◌, ℕ, true, false, List, length, refl, sym, ◌∙◌, ap, subst, inl, inr, Some, None, Expression, MatchesEmpty, Written, written, Outside, Nothing, fault_from, first_fault, IsFault, Alt, SpellsAt, Spells, IsPattern, Refusal, Fault, Memory, matches_empty, is_sound, Reports, fault_at, writing, Character, both_ways}
+use Rattle.patterns.proofs.Std.{◌≡◌, ℕ, true, false, List, length, refl, sym, ◌∙◌, ap, subst, inl, inr, Some, None, both_ways}
+use Rattle.patterns.proofs.Common.{Expression, MatchesEmpty, Written, written, Outside, Nothing, fault_from, first_fault, IsFault, Alt, SpellsAt, Spells, IsPattern, Refusal, Fault, Memory, matches_empty, is_sound, Reports, fault_at, writing, Character}
 use Rattle.patterns.proofs.WellMade.{well_made, empty_matched, empty_tested}
 
 -- ws is what the text t writes, and n its length

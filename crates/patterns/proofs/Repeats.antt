@@ -1,5 +1,7 @@
 -- An atom with its sign of repetition, and what goes on after it.
-use Rattle.patterns.proofs.Common.{◌≡◌, ℕ, zero, suc, ◌+◌, ◌-◌, ◌<◌, ◌==◌, ◌&&◌, nat_lt, Bool, true, false, List, [], ◌∷◌, ◌++◌, length, refl, sym, ◌∙◌, ap, subst, append_assoc, add-one, arith, Some, None, Vec, Result, Ok, Err, IsErr, IsErrAnd, IfErr, nat_tests, Expression, Literal, Class, Interval, PatternFault, Global, Refusal, Fault, Memory, Written, Plain, Before, Outside, Nothing, AnAtom, ARepetition, fault_from, Level, Alt, Rep, Atom, SpellsAt, literal, class, group, writing, Begins, HasNoBlank, IsPart, IsRead, IsRepeated, IsAtEnd, IsLiteralPrefix, IsClassBody, Syntax, Reports, stops, append-nil, Character, is_sound, or_parts}
+use Rattle.patterns.proofs.Std.{◌≡◌, ℕ, zero, suc, ◌+◌, ◌-◌, ◌<◌, ◌==◌, ◌&&◌, nat_lt, Bool, true, false, List, [], ◌∷◌, ◌++◌, length, refl, sym, ◌∙◌, ap, subst, append_assoc, add-one, arith, Some, None, Vec, Result, Ok, Err, IsErr, IsErrAnd, IfErr, nat_tests, Global, append-nil, or_parts}
+use Rattle.patterns.proofs.Common.{Expression, Literal, Class, Interval, PatternFault, Written, Plain, Before, Outside, Nothing, AnAtom, ARepetition, fault_from, Level, Alt, Rep, Atom, SpellsAt, literal, class, group, Syntax}
+use Rattle.patterns.proofs.Common.{Refusal, Fault, Memory, writing, Begins, HasNoBlank, IsPart, IsRead, IsRepeated, IsAtEnd, IsLiteralPrefix, IsClassBody, Reports, stops, Character, is_sound}
 use Rattle.patterns.proofs.Blanks.{Skips, blanks_after_part, blanks_skipped}
 use Rattle.patterns.proofs.Literals.{not_equal}
 

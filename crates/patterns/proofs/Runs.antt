@@ -1,5 +1,11 @@
 -- A text that spells a well made expression has no fault.
-use Rattle.patterns.proofs.Common.{◌≡◌, ◌≢◌, ◌⊎◌, inl, inr, ℕ, zero, suc, ◌-◌, ◌<◌, ◌≤◌, ◌==◌, nat_lt, nat_le, Bool, true, false, not, ◌||◌, List, [], ◌∷◌, ◌++◌, refl, sym, ◌∙◌, ap, subst, append_assoc, add-one, arith, length, Option, Some, None, PatternFault, append-nil, nat_tests, list_all, AllByRecursion, Interval, Expression, IsCharacter, is_member, is_within, is_in_class, Written, Plain, Escaped, BadEscape, written, IsFault, code_after, is_everything, is_nothing, Before, Nothing, AnAtom, ARepetition, is_something, Outside, InLiteral, InClass, Opened, Items, First, Dash, closed, fault_from, or_later, first_fault, Level, Alt, Seq, Rep, Atom, SpellsAt, choice, sequence, star, plus, optional, literal, class, group, one_seq, one_rep, one_atom, blank_before, blank_after, IsSign, IsBlank, IsLiteralRest, IsLiteral, IsItem, IsClassRest, IsClass, IsClassChar, IsWellMade, IsPattern, Spells, Begins, place, and_parts, false_from_ne_true, or_left, or_right}
+use Rattle.patterns.proofs.Std.{◌≡◌, ◌≢◌, ◌⊎◌, inl, inr, ℕ, zero, suc, ◌-◌, ◌<◌, ◌≤◌, ◌==◌, nat_lt, nat_le, Bool, true, false, not, ◌||◌, List, [], ◌∷◌, ◌++◌, refl, sym, ◌∙◌, ap, subst, length, Option, Some, None, list_all, AllByRecursion}
+use Rattle.patterns.proofs.Std.{append_assoc, add-one, arith, append-nil, nat_tests, and_parts, false_from_ne_true, or_left, or_right}
+use Rattle.patterns.proofs.Common.{PatternFault, Interval, Expression, IsCharacter, is_member, is_within, is_in_class, Written, Plain, Escaped, BadEscape, written}
+use Rattle.patterns.proofs.Common.{IsFault, code_after, is_everything, is_nothing, Before, Nothing, AnAtom, ARepetition, is_something, Outside, InLiteral, InClass, Opened, Items, First, Dash, closed, fault_from, or_later, first_fault}
+use Rattle.patterns.proofs.Common.{Level, Alt, Seq, Rep, Atom, SpellsAt, IsSign, IsBlank, IsLiteralRest, IsLiteral, IsItem, IsClassRest, IsClass, IsClassChar, IsWellMade, IsPattern, Spells}
+use Rattle.patterns.proofs.Common.{choice, sequence, star, plus, optional, literal, class, group, one_seq, one_rep, one_atom, blank_before, blank_after}
+use Rattle.patterns.proofs.Common.{Begins, place}
 use Rattle.patterns.proofs.Blanks.{blank_step}
 use Rattle.patterns.proofs.WellMade.{or_case, le_tested}
 use Rattle.patterns.proofs.Unique.{one_meaning}

@@ -1,6 +1,8 @@
 -- All expressions that one text spells mean the same texts: a machine that reads the text makes one form, which means what each of
 -- them does.
-use Rattle.patterns.proofs.Common.{◌≡◌, ◌⊎◌, ◌↔◌, inl, inr, ℕ, ◌==◌, Bool, true, false, cond, List, [], ◌∷◌, ◌++◌, Option, Some, None, refl, sym, ◌∙◌, ap, subst, append_assoc, IsTrue, AllByRecursion, append-nil, Interval, Expression, IsCharacter, IsJoin, IsNonemptyJoin, is_in_class, Matches, Written, Plain, Escaped, BadEscape, written, Level, Alt, Seq, Rep, Atom, SpellsAt, Spells, choice, sequence, star, plus, optional, literal, class, group, one_seq, one_rep, one_atom, blank_before, blank_after, IsSign, IsBlank, IsLiteralRest, IsLiteral, IsClassRest, IsClass, IsClassChar}
+use Rattle.patterns.proofs.Std.{◌≡◌, ◌⊎◌, ◌↔◌, inl, inr, ℕ, ◌==◌, Bool, true, false, cond, List, [], ◌∷◌, ◌++◌, Option, Some, None, refl, sym, ◌∙◌, ap, subst, append_assoc, IsTrue, AllByRecursion, append-nil}
+use Rattle.patterns.proofs.Common.{Interval, Expression, IsCharacter, IsJoin, IsNonemptyJoin, is_in_class, Matches, Written, Plain, Escaped, BadEscape, written}
+use Rattle.patterns.proofs.Common.{Level, Alt, Seq, Rep, Atom, SpellsAt, Spells, choice, sequence, star, plus, optional, literal, class, group, one_seq, one_rep, one_atom, blank_before, blank_after, IsSign, IsBlank, IsLiteralRest, IsLiteral, IsClassRest, IsClass, IsClassChar}
 use Rattle.patterns.proofs.Literals.{by_plain, not_equal}
 
 -- a set of texts

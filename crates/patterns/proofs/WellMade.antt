@@ -1,5 +1,6 @@
 -- The tests of an expression decide what they are meant to.
-use Rattle.patterns.proofs.Common.{◌≡◌, ◌≢◌, inl, inr, ℕ, ◌+◌, ◌==◌, ◌≤◌, nat_le, Bool, true, false, not, ◌&&◌, ◌||◌, List, [], ◌∷◌, ◌++◌, refl, sym, ap, subst, arith, lit≤, nat_tests, list_all, concat, AllByRecursion, Interval, Expression, Literal, Class, Sequence', Choice', Star', Plus', Optional', IsCharacter, is_member, is_in_class, Matches, is_scalar, code_after, is_everything, is_nothing, IsWellMade, is_empty, matches_empty, is_range, is_sound, and_parts, not-true, or_left, or_right}
+use Rattle.patterns.proofs.Std.{◌≡◌, ◌≢◌, inl, inr, ℕ, ◌+◌, ◌==◌, ◌≤◌, nat_le, Bool, true, false, not, ◌&&◌, ◌||◌, List, [], ◌∷◌, ◌++◌, refl, sym, ap, subst, arith, lit≤, nat_tests, list_all, concat, AllByRecursion, and_parts, not-true, or_left, or_right}
+use Rattle.patterns.proofs.Common.{Interval, Expression, Literal, Class, Sequence', Choice', Star', Plus', Optional', IsCharacter, is_member, is_in_class, Matches, is_scalar, code_after, is_everything, is_nothing, IsWellMade, is_empty, matches_empty, is_range, is_sound}
 use Rattle.patterns.proofs.Literals.{eq_or_not, not_equal}
 
 not_false : (a : Bool) → a ≡ false → not a ≡ true

@@ -1,5 +1,11 @@
 -- A text without a fault spells a well made expression: what has been read is parts of one, and each further character goes on with them.
-use Rattle.patterns.proofs.Common.{null_ptr, ◌≡◌, ◌≢◌, inl, inr, ℕ, zero, suc, ◌+◌, ◌-◌, ◌*◌, ◌^◌, ◌<◌, ◌≤◌, ◌==◌, ◌&&◌, ◌||◌, nat_lt, nat_le, Bool, true, false, not, List, [], ◌∷◌, ◌++◌, length, None, Ok, Err, Vec, refl, sym, ◌∙◌, ap, subst, append_assoc, length-append, add-one, le_refl, arith, if◌then◌else◌, AllByRecursion, recursion_from_All, list_all, nat_tests, digit_value, Global, Interval, Expression, Literal, Class, Sequence', Choice', Star', Plus', Optional', Address, IsCharacter, IsText, is_scalar, is_mark, Written, Plain, Escaped, BadEscape, written, escape, braced, digits, Before, Nothing, AnAtom, ARepetition, is_something, is_atom, InItem, Opened, Items, First, Dash, State, Outside, InLiteral, InClass, Next, step, closed, close, dash, caret, char_in_class, is_nothing, fault_from, fault_at_end, or_later, first_fault, Level, Alt, Seq, Rep, Atom, SpellsAt, Spells, choice, sequence, star, plus, optional, literal, class, group, one_seq, one_rep, one_atom, blank_before, blank_after, IsSign, IsBlank, IsLiteralChar, IsLiteralRest, IsLiteral, IsItem, IsClassChar, IsClassRest, IsClass, IsWellMade, is_empty, is_range, and_parts}
+use Rattle.patterns.proofs.Std.{null_ptr, inl, inr, ℕ, zero, suc, nat_lt, nat_le, Bool, true, false, not, List, length, None, Ok, Err, Vec, refl, sym, ap, subst, if◌then◌else◌, AllByRecursion, list_all, digit_value, Global}
+use Rattle.patterns.proofs.Std.{◌≡◌, ◌≢◌, ◌+◌, ◌-◌, ◌*◌, ◌^◌, ◌<◌, ◌≤◌, ◌==◌, ◌&&◌, ◌||◌, [], ◌∷◌, ◌++◌, ◌∙◌}
+use Rattle.patterns.proofs.Std.{append_assoc, length-append, add-one, le_refl, arith, recursion_from_All, nat_tests, and_parts}
+use Rattle.patterns.proofs.Common.{Interval, Expression, Literal, Class, Sequence', Choice', Star', Plus', Optional', Address, Level, Alt, Seq, Rep, Atom, SpellsAt, Spells, IsSign, IsBlank, IsLiteralChar, IsLiteralRest, IsLiteral, IsItem, IsClassChar, IsClassRest, IsClass, IsWellMade}
+use Rattle.patterns.proofs.Common.{choice, sequence, star, plus, optional, literal, class, group, one_seq, one_rep, one_atom, blank_before, blank_after, IsCharacter, IsText, is_scalar, is_mark, Written, Plain, Escaped, BadEscape, written, escape, braced, digits}
+use Rattle.patterns.proofs.Common.{Before, Nothing, AnAtom, ARepetition, is_something, is_atom, InItem, Opened, Items, First, Dash, State, Outside, InLiteral, InClass, Next, step, closed, close, dash, caret, char_in_class, is_nothing, fault_from, fault_at_end, or_later, first_fault}
+use Rattle.patterns.proofs.Common.{is_empty, is_range}
 use Rattle.std.proofs.Common.{append-nil}
 use Rattle.patterns.proofs.Literals.{GoesOn, one_more, all_and_one, not_empty_after}
 use Rattle.patterns.proofs.WellMade.{or_case, ranges, has_member, filled}

@@ -1,5 +1,6 @@
 -- The characters that are written so far.
-use Rattle.patterns.proofs.Common.{◌≡◌, List, [], ◌∷◌, ◌++◌, refl, sym, ◌∙◌, ap, append_assoc, Written, Character, written_as, writing}
+use Rattle.patterns.proofs.Std.{◌≡◌, List, [], ◌∷◌, ◌++◌, refl, sym, ◌∙◌, ap, append_assoc}
+use Rattle.patterns.proofs.Common.{Written, Character, written_as, writing}
 
 writing-append : (xs ys : List Character) → writing (xs ++ ys) ≡ writing xs ++ writing ys
 writing-append [] ys = refl

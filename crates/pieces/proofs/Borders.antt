@@ -1,5 +1,7 @@
 -- Where a text may be cut.
-use Rattle.pieces.proofs.Common.{IsUtf8, IsCharBoundary, all_scalars, chars, cases_lt, and_parts, and_from, take-append-drop, take-append_seam, drop-append_seam, units, Utf8, IsUtf8-drop, IsCharBoundary-past_char, IsCharBoundary-start, IsCharBoundary-at_seam, len_utf8_bounds, chars-encodes, scalars-chars, encodes-chars, encodes-append, len_utf8, arith, refl, sym, ap, subst, inl, inr, ◌∙◌, ◌≡◌, ℕ, zero, suc, ◌+◌, ◌<◌, ◌≤◌, true, List, [], ◌∷◌, ◌++◌, length, take, drop, encode_utf8_all, length-drop}
+use Rattle.pieces.proofs.Std.{IsUtf8, IsCharBoundary, all_scalars, chars, len_utf8, refl, sym, ap, subst, inl, inr, ◌∙◌, ◌≡◌, ℕ, zero, suc, ◌+◌, ◌<◌, ◌≤◌, true, List, [], ◌∷◌, ◌++◌, length, take, drop, encode_utf8_all}
+use Rattle.pieces.proofs.Std.{cases_lt, and_parts, and_from, take-append-drop, take-append_seam, drop-append_seam, IsUtf8-drop, IsCharBoundary-past_char, IsCharBoundary-start, IsCharBoundary-at_seam, len_utf8_bounds, chars-encodes, scalars-chars, encodes-chars, encodes-append, arith, length-drop}
+use Rattle.pieces.proofs.Common.{units, Utf8}
 use Rattle.pieces.proofs.Joins.{units-bytes}
 
 -- the first place from n on at which a text may be cut

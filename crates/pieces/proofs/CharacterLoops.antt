@@ -1,5 +1,6 @@
 -- What a loop over the characters t of a text has yielded, and what is left.
-use Rattle.pieces.proofs.Common.{arith, sym, ap, ◌∙◌, ◌≡◌, ℕ, ◌+◌, ◌<◌, ◌≤◌, List, [], ◌∷◌, ◌++◌, length, take, drop, slice_index_or, Option, Some, None, Yields, YieldsList, YieldsList-so_far, YieldsList-turn, YieldsList-end, append_assoc, take_more, drop_more, take-append-drop, map-id, Utf8, units}
+use Rattle.pieces.proofs.Std.{arith, sym, ap, ◌∙◌, ◌≡◌, ℕ, ◌+◌, ◌<◌, ◌≤◌, List, [], ◌∷◌, ◌++◌, length, take, drop, slice_index_or, Option, Some, None, Yields, YieldsList, YieldsList-so_far, YieldsList-turn, YieldsList-end, append_assoc, take_more, drop_more, take-append-drop, map-id}
+use Rattle.pieces.proofs.Common.{Utf8, units}
 use Rattle.pieces.proofs.Joins.{units-append}
 
 -- the characters yielded are a prefix of the text, and c is the next one

@@ -1,5 +1,7 @@
 -- What lies before and after a cut of a text in pieces.
-use Rattle.pieces.proofs.Common.{text_in, chars, cases_lt, take-append-drop, drop_more, whole_at, none_after, encode_same, length-encode, len_utf8_bounds, length-le-encodes, units, Utf8, Cut, IsCut, arith, length-append, length-take, sym, ap, inl, inr, ◌⊎◌, ◌∙◌, ◌≡◌, ℕ, ◌+◌, ◌<◌, ◌≤◌, List, ◌++◌, Option, Some, None, length, take, drop, slice_index, slice_get, encode_utf8, encode_utf8_all, MatchOption}
+use Rattle.pieces.proofs.Std.{chars, sym, ap, inl, inr, ◌⊎◌, ◌∙◌, ◌≡◌, ℕ, ◌+◌, ◌<◌, ◌≤◌, List, ◌++◌, Option, Some, None, length, take, drop, slice_index, slice_get, encode_utf8, encode_utf8_all, MatchOption}
+use Rattle.pieces.proofs.Std.{cases_lt, take-append-drop, drop_more, encode_same, length-encode, len_utf8_bounds, length-le-encodes, arith, length-append, length-take}
+use Rattle.pieces.proofs.Common.{text_in, whole_at, none_after, units, Utf8, Cut, IsCut}
 use Rattle.std.proofs.Common.{length-drop}
 use Rattle.pieces.proofs.Joins.{units-append, units-bytes}
 use Rattle.pieces.proofs.Summed.{text_before}

@@ -1,5 +1,7 @@
 -- The sum of a text joins those of its parts.
-use Rattle.pieces.proofs.Common.{zero, suc, Bool, true, false, ◌||◌, take_while, encode_utf8, len_utf8, prefix_len, cases_Bool, eqb-true, eq-eqb, false≢true, ltb-true, ltb-false, take_while-cons, sum_by-cons, sum_by-take-le, sum_by-append, IsUtf8, chars, len_utf8_bounds, length-encode, encodes-chars, saturated-exact, saturated-zero_left, Encoding, Utf8, Utf16, Utf32, begins_with, ends_break, unit, units, in_line, Units, Sums, Counts, Filled, ends_with, counts_of, sums_of, shown_units, most, sum, after_joined, counts_joined, joined, joined-assoc, ◌≡◌, ℕ, ◌+◌, ◌≤◌, ◌⊎◌, not, ◌&&◌, ◌==◌, nat_lt, List, [], ◌∷◌, ◌++◌, length, encode_utf8_all, arith, length-append, refl, sym, ap, subst, inl, inr, ◌∙◌, cond}
+use Rattle.pieces.proofs.Std.{zero, suc, Bool, true, false, ◌||◌, take_while, encode_utf8, len_utf8, prefix_len, IsUtf8, chars, ◌≡◌, ℕ, ◌+◌, ◌≤◌, ◌⊎◌, not, ◌&&◌, ◌==◌, nat_lt, List, [], ◌∷◌, ◌++◌, length, encode_utf8_all, refl, sym, ap, subst, inl, inr, ◌∙◌, cond}
+use Rattle.pieces.proofs.Std.{cases_Bool, eqb-true, eq-eqb, false≢true, ltb-true, ltb-false, take_while-cons, sum_by-cons, sum_by-take-le, sum_by-append, len_utf8_bounds, length-encode, encodes-chars, arith, length-append}
+use Rattle.pieces.proofs.Common.{saturated-exact, saturated-zero_left, Encoding, Utf8, Utf16, Utf32, begins_with, ends_break, unit, units, in_line, Units, Sums, Counts, Filled, ends_with, counts_of, sums_of, shown_units, most, sum, after_joined, counts_joined, joined, joined-assoc}
 use Rattle.pieces.proofs.Prefixes.{ended_in, after_in, units_after-none, units_after-some, position-prefix}
 
 -- what a `\n` after a text leaves: the breaks that end in it, and the units after them

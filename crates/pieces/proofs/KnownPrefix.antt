@@ -1,5 +1,7 @@
 -- What is known of a prefix of a text: by its sum, with one character more, and by what comes next.
-use Rattle.pieces.proofs.Common.{arith, refl, sym, ap, subst, inl, inr, ◌∙◌, cond, length-append, ◌≡◌, ℕ, zero, suc, ◌+◌, ◌-◌, ◌^◌, ◌≤◌, ◌⊎◌, ◌<◌, ◌≢◌, min, Bool, true, false, not, nat_lt, ◌==◌, List, [], ◌∷◌, ◌++◌, length, len_utf8_ascii, lt-ltb, ltb-true, ltb-false, not-true, and_parts, eq-eqb, ne_eqb, and_from, and_left, and_right, false≢true, Position, Encoding, Utf8, Utf16, Utf32, begins_with, unit, units, position, Prefix, Counts, Sums, Empty, Filled, ends_with, end_before_feed, counts_of, sums_of, count_of, prefix_of, goes_on, with_ones, room, IsPast}
+use Rattle.pieces.proofs.Std.{arith, length-append, len_utf8_ascii, lt-ltb, ltb-true, ltb-false, not-true, and_parts, eq-eqb, ne_eqb, and_from, and_left, and_right, false≢true}
+use Rattle.pieces.proofs.Std.{refl, sym, ap, subst, inl, inr, ◌∙◌, cond, ◌≡◌, ℕ, zero, suc, ◌+◌, ◌-◌, ◌^◌, ◌≤◌, ◌⊎◌, ◌<◌, ◌≢◌, min, Bool, true, false, not, nat_lt, ◌==◌, List, [], ◌∷◌, ◌++◌, length}
+use Rattle.pieces.proofs.Common.{Position, Encoding, Utf8, Utf16, Utf32, begins_with, unit, units, position, Prefix, Counts, Sums, Empty, Filled, ends_with, end_before_feed, counts_of, sums_of, count_of, prefix_of, goes_on, with_ones, room, IsPast}
 use Rattle.pieces.proofs.Prefixes.{ended_in, after_in, whole_if_none, position-prefix}
 use Rattle.pieces.proofs.Joins.{feed, turned, ended-le, length-le, units-append, units-nil, units-cons, units-le, line-le as line_units-le}
 use Rattle.pieces.proofs.Steps.{breaks_at_end, end_at, end-is, end-as_before_feed, end-in_next_line, end-feed, end-return, end-other}

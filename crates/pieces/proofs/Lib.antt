@@ -1,4 +1,5 @@
 pub mod Common
+pub mod Std
 pub mod Borders
 pub mod CutAt
 pub mod Prefixes

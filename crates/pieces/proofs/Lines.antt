@@ -1,5 +1,6 @@
 -- The sum of a text by the units of what is after its last `\r` or `\n`, with one character more.
-use Rattle.pieces.proofs.Common.{zero, suc, true, false, ◌||◌, cases_Bool, and_parts, eqb-true, ne_eqb, lt-ltb, IsAscii, chars-IsAscii, IsUtf8-from_ascii, len_utf8_ascii, saturated-zero_left, saturated-exact, Utf8, Utf16, Utf32, unit, units, Counts, Sums, Empty, Filled, Units, sums_of, most, sum, units_joined, later_breaks, after_joined, joined, no_units, units_of, ascii_units, shown_units, HaveRoom, is_none, line_sums, joined-assoc, ◌≡◌, ℕ, ◌+◌, ◌<◌, ◌≤◌, ◌⊎◌, ◌==◌, List, [], ◌∷◌, ◌++◌, length, take, arith, refl, sym, ap, subst, inl, inr, ◌∙◌, cond}
+use Rattle.pieces.proofs.Std.{zero, suc, true, false, ◌||◌, cases_Bool, and_parts, eqb-true, ne_eqb, lt-ltb, IsAscii, chars-IsAscii, IsUtf8-from_ascii, len_utf8_ascii, ◌≡◌, ℕ, ◌+◌, ◌<◌, ◌≤◌, ◌⊎◌, ◌==◌, List, [], ◌∷◌, ◌++◌, length, take, arith, refl, sym, ap, subst, inl, inr, ◌∙◌, cond}
+use Rattle.pieces.proofs.Common.{saturated-zero_left, saturated-exact, Utf8, Utf16, Utf32, unit, units, Counts, Sums, Empty, Filled, Units, sums_of, most, sum, units_joined, later_breaks, after_joined, joined, no_units, units_of, ascii_units, shown_units, HaveRoom, is_none, line_sums, joined-assoc}
 use Rattle.pieces.proofs.Joins.{sums_of_one, sums_of-more, units-chars, unit-le, length-le, units-append, units-cons, units-nil}
 use Rattle.pieces.proofs.KnownPrefix.{character-le}
 use Rattle.pieces.proofs.CharacterLoops.{few-take}

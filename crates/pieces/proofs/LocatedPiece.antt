@@ -1,5 +1,7 @@
 -- What the place of a piece that was looked for says of the text.
-use Rattle.pieces.proofs.Common.{text_in, ltb-true, ltb-false, lt-ltb, eqb-true, eq-eqb, or_cases, or_left, or_right, and_from, and_parts, false≢true, append_assoc, take-append-drop, total, Position, Utf8, begins_with, units, Sums, Empty, AfterCharacter, AfterPosition, sums_of, joined, most, end_before_feed, count_of, counts_of, is_after_character, is_after_position, IsPast, arith, refl, sym, ap, inl, inr, ◌∙◌, length-append, length-take, ◌≡◌, ℕ, zero, suc, ◌+◌, ◌-◌, ◌^◌, ◌<◌, ◌≤◌, ◌⊎◌, Bool, true, false, ◌&&◌, ◌==◌, nat_lt, List, [], ◌∷◌, ◌++◌, length, take, drop}
+use Rattle.pieces.proofs.Std.{ltb-true, ltb-false, lt-ltb, eqb-true, eq-eqb, or_cases, or_left, or_right, and_from, and_parts, false≢true, append_assoc, take-append-drop, arith, length-append, length-take}
+use Rattle.pieces.proofs.Std.{refl, sym, ap, inl, inr, ◌∙◌, ◌≡◌, ℕ, zero, suc, ◌+◌, ◌-◌, ◌^◌, ◌<◌, ◌≤◌, ◌⊎◌, Bool, true, false, ◌&&◌, ◌==◌, nat_lt, List, [], ◌∷◌, ◌++◌, length, take, drop}
+use Rattle.pieces.proofs.Common.{text_in, total, Position, Utf8, begins_with, units, Sums, Empty, AfterCharacter, AfterPosition, sums_of, joined, most, end_before_feed, count_of, counts_of, is_after_character, is_after_position, IsPast}
 use Rattle.pieces.proofs.KnownPrefix.{same_line, same_character, line-le, nothing-end}
 use Rattle.pieces.proofs.Summed.{text_before, total-pieces, few_before}
 

@@ -1,5 +1,7 @@
 -- The offset of a position, by the prefixes of a text that are not past it.
-use Rattle.pieces.proofs.Common.{suc, Bool, true, false, nat_le, take_while, cases_lt, cases_Bool, le-leb, lt-leb, eqb-true, eq-eqb, and_from, and_parts, and_right, false≢true, append-nil, append_assoc, take_at, get_or_past, drop_all, take_while-cons, Position, Encoding, ends_break, break_ends, line_of, line_start, line_from, unit, units, greatest, offset, greatest-is, line_start-le, units-take-lt, in_line, ends_with, end_before_feed, IsPast, ◌≡◌, ℕ, ◌+◌, ◌-◌, ◌<◌, ◌≤◌, ◌⊎◌, ◌&&◌, ◌==◌, List, [], ◌∷◌, ◌++◌, length, take, drop, arith, refl, sym, ap, subst, inl, inr, ◌∙◌, cond, length-append}
+use Rattle.pieces.proofs.Std.{suc, Bool, true, false, nat_le, take_while, ◌≡◌, ℕ, ◌+◌, ◌-◌, ◌<◌, ◌≤◌, ◌⊎◌, ◌&&◌, ◌==◌, List, [], ◌∷◌, ◌++◌, length, take, drop, refl, sym, ap, subst, inl, inr, ◌∙◌, cond}
+use Rattle.pieces.proofs.Std.{cases_lt, cases_Bool, le-leb, lt-leb, eqb-true, eq-eqb, and_from, and_parts, and_right, false≢true, append-nil, append_assoc, take_at, get_or_past, drop_all, take_while-cons, arith, length-append}
+use Rattle.pieces.proofs.Common.{Position, Encoding, ends_break, break_ends, line_of, line_start, line_from, unit, units, greatest, offset, greatest-is, line_start-le, units-take-lt, in_line, ends_with, end_before_feed, IsPast}
 use Rattle.std.proofs.Common.{length-drop}
 use Rattle.pieces.proofs.Prefixes.{ended_in, after_in, line-prefix, start_in, drop_prefix}
 use Rattle.pieces.proofs.Joins.{feed, Class, Feed, Return, Other, class, units-append, units-cons, units-nil}

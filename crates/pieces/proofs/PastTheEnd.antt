@@ -1,5 +1,6 @@
 -- Past the end of a text: an offset there has the position of the end, and no position has an offset there.
-use Rattle.pieces.proofs.Common.{zero, suc, Bool, true, false, slice_index_or, prefix_len, le-leb, take_all, Position, Encoding, ends_break, break_ends, line_of, line_start, line_from, units, offset, position, in_line, ended, ended-cons, IsOffset-offset, ◌≡◌, ℕ, ◌+◌, ◌-◌, ◌≤◌, List, [], ◌∷◌, length, take, drop, arith, refl, sym, ap, ◌∙◌, cond, length-take}
+use Rattle.pieces.proofs.Std.{zero, suc, Bool, true, false, slice_index_or, prefix_len, le-leb, take_all, ◌≡◌, ℕ, ◌+◌, ◌-◌, ◌≤◌, List, [], ◌∷◌, length, take, drop, arith, refl, sym, ap, ◌∙◌, cond, length-take}
+use Rattle.pieces.proofs.Common.{Position, Encoding, ends_break, break_ends, line_of, line_start, line_from, units, offset, position, in_line, ended, ended-cons, IsOffset-offset}
 use Rattle.std.proofs.Common.{length-drop}
 
 -- each break of a text ends at or before an offset past its end

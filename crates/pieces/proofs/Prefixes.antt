@@ -1,5 +1,6 @@
 -- The position of the end of a prefix of a text: what lies after its last break, given what follows it.
-use Rattle.pieces.proofs.Common.{zero, suc, Bool, true, false, take_while, slice_index_or, le-leb, take_while-cons, Encoding, ends_break, break_ends, line_of, line_start, line_from, units, position, ended, ended-cons, none_ended, line_start-le, in_line, ◌≡◌, ℕ, ◌+◌, ◌-◌, ◌≤◌, List, [], ◌∷◌, ◌++◌, length, take, drop, arith, refl, sym, ap, subst, ◌∙◌, cond, length-drop}
+use Rattle.pieces.proofs.Std.{zero, suc, Bool, true, false, take_while, slice_index_or, le-leb, take_while-cons, ◌≡◌, ℕ, ◌+◌, ◌-◌, ◌≤◌, List, [], ◌∷◌, ◌++◌, length, take, drop, arith, refl, sym, ap, subst, ◌∙◌, cond, length-drop}
+use Rattle.pieces.proofs.Common.{Encoding, ends_break, break_ends, line_of, line_start, line_from, units, position, ended, ended-cons, none_ended, line_start-le, in_line}
 
 -- how many breaks end in t, where r follows
 abbrev pub ended_in : List ℕ → List ℕ → ℕ

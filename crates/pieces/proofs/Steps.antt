@@ -1,5 +1,6 @@
 -- The end of a prefix of a text: its position by what comes next, and how it moves by one character.
-use Rattle.pieces.proofs.Common.{arith, refl, sym, ap, subst, inl, inr, ◌∙◌, cond, ◌≡◌, ℕ, zero, suc, ◌+◌, ◌≤◌, ◌⊎◌, Bool, true, false, not, ◌||◌, ◌&&◌, ◌==◌, List, [], ◌∷◌, ◌++◌, length, take_while, cases_Bool, eqb-true, false≢true, and_parts, and_right, append_assoc, take_while-cons, Position, Encoding, begins_with, ends_break, unit, units, in_line, ends_with, end_before_feed}
+use Rattle.pieces.proofs.Std.{arith, refl, sym, ap, subst, inl, inr, ◌∙◌, cond, ◌≡◌, ℕ, zero, suc, ◌+◌, ◌≤◌, ◌⊎◌, Bool, true, false, not, ◌||◌, ◌&&◌, ◌==◌, List, [], ◌∷◌, ◌++◌, length, take_while, cases_Bool, eqb-true, false≢true, and_parts, and_right, append_assoc, take_while-cons}
+use Rattle.pieces.proofs.Common.{Position, Encoding, begins_with, ends_break, unit, units, in_line, ends_with, end_before_feed}
 use Rattle.pieces.proofs.Prefixes.{ended_in, after_in, whole_if_none, units_after-none, units_after-some, position-prefix}
 use Rattle.pieces.proofs.Joins.{feed, turned, Class, Feed, Return, Other, class, no_break, goes_on, units-cons, units-nil, units-append}
 

@@ -1,5 +1,6 @@
 -- The sum of a text that is a list of pieces, and of what lies before one of them.
-use Rattle.pieces.proofs.Common.{text_in, take-append-drop, joined-append, total, Utf8, units, Empty, sums_of, joined, most, arith, refl, sym, ap, ◌∙◌, ◌≡◌, ℕ, ◌≤◌, List, [], ◌∷◌, ◌++◌, take, drop}
+use Rattle.pieces.proofs.Std.{take-append-drop, arith, refl, sym, ap, ◌∙◌, ◌≡◌, ℕ, ◌≤◌, List, [], ◌∷◌, ◌++◌, take, drop}
+use Rattle.pieces.proofs.Common.{text_in, joined-append, total, Utf8, units, Empty, sums_of, joined, most}
 use Rattle.pieces.proofs.Joins.{sums_of_append, units-append}
 
 pub total-pieces : (pieces : List (List ℕ)) → units Utf8 (text_in pieces) ≤ most → total Empty joined sums_of pieces ≡ sums_of (text_in pieces)

@@ -1,5 +1,6 @@
 -- The columns of lookaheads.
-use Rattle.productions.proofs.Common.{◌≡◌, ◌+◌, ◌-◌, ◌<◌, ◌==◌, ℕ, zero, suc, false, Option, Some, None, refl, sym, ap, ◌∙◌, subst, arith, IfSome, if◌then◌else◌, ne_eqb, lookahead_at, rank}
+use Rattle.productions.proofs.Std.{◌≡◌, ◌+◌, ◌-◌, ◌<◌, ◌==◌, ℕ, zero, suc, false, Option, Some, None, refl, sym, ap, ◌∙◌, subst, arith, IfSome, if◌then◌else◌, ne_eqb}
+use Rattle.productions.proofs.Common.{lookahead_at, rank}
 
 lookahead_at-suc : (a : ℕ) → lookahead_at (suc a) ≡ Some a
 lookahead_at-suc a =

@@ -1,5 +1,5 @@
 -- Facts of each element of a list that gets one more.
-use Rattle.productions.proofs.Common.{◌≡◌, ◌<◌, ℕ, List, [], ◌∷◌, ◌++◌, arith, length-append, length, slice_index_or, inl, inr, cases_lt, get_or_append_left, get_or-append_seam}
+use Rattle.productions.proofs.Std.{◌≡◌, ◌<◌, ℕ, List, [], ◌∷◌, ◌++◌, arith, length-append, length, slice_index_or, inl, inr, cases_lt, get_or_append_left, get_or-append_seam}
 
 -- a fact of each element, and of one more
 pub each_more : {X : Type 0} (P : ℕ → X → Type 0) (xs : List X) (x d : X) → ((a : ℕ) → a < length xs → P a (slice_index_or xs a d))

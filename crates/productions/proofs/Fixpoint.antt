@@ -1,5 +1,7 @@
 -- Marks that a fixpoint gives are FIRST by the rules.
-use Rattle.productions.proofs.Common.{◌≡◌, ◌+◌, ◌<◌, ◌≤◌, ◌⊎◌, ℕ, Bool, true, false, ◌&&◌, ◌||◌, List, [], ◌∷◌, Option, Some, None, length, slice_index_or, slice_set, refl, sym, subst, ⊎_elim, arith, ap, ◌∙◌, get_or-set_other, cases_eq, eq-eqb, eqb-true, sum_by-set, Symbol, Terminal, Nonterminal, Grammar, HasProduction, production_of, left_of, right_of, IsNullable, None_left, Drop, InFirst, At_once, Within, After, nullable_by, begin_by, holds_by, Means, AreTrue, AreClosed, AreExact, off, on, unmarked, and_from, and_parts, or_cases, or_left, or_right}
+use Rattle.productions.proofs.Std.{◌≡◌, ◌+◌, ◌<◌, ◌≤◌, ◌⊎◌, ℕ, Bool, true, false, ◌&&◌, ◌||◌, List, [], ◌∷◌, Option, Some, None, length, slice_index_or, slice_set, refl, sym, subst, ⊎_elim, ap, ◌∙◌}
+use Rattle.productions.proofs.Std.{arith, get_or-set_other, cases_eq, eq-eqb, eqb-true, sum_by-set, and_from, and_parts, or_cases, or_left, or_right}
+use Rattle.productions.proofs.Common.{Symbol, Terminal, Nonterminal, Grammar, HasProduction, production_of, left_of, right_of, IsNullable, None_left, Drop, InFirst, At_once, Within, After, nullable_by, begin_by, holds_by, Means, AreTrue, AreClosed, AreExact, off, on, unmarked}
 use Rattle.productions.proofs.Numbers.{production_is}
 
 module _ (g : Grammar) where

@@ -1,5 +1,6 @@
 -- What may follow no symbols, and what may follow those that begin with a token rule.
-use Rattle.productions.proofs.Common.{◌≡◌, ◌↔◌, ◌<◌, ℕ, List, [], ◌∷◌, Option, Some, length, slice_index_or, arith, refl, subst, inl, inr, ⊎_elim, Symbol, Terminal, Nonterminal, Grammar, IsNullable, None_left, Drop, InFirst, At_once, MayFollow}
+use Rattle.productions.proofs.Std.{◌≡◌, ◌↔◌, ◌<◌, ℕ, List, [], ◌∷◌, Option, Some, length, slice_index_or, arith, refl, subst, inl, inr, ⊎_elim}
+use Rattle.productions.proofs.Common.{Symbol, Terminal, Nonterminal, Grammar, IsNullable, None_left, Drop, InFirst, At_once, MayFollow}
 
 begins_nothing : (g : Grammar) (a : ℕ) (ss : List Symbol) → ss ≡ [] → InFirst g a ss → ⊥
 begins_nothing g a ss e At_once = cc e

@@ -1,5 +1,6 @@
 -- What may follow symbols of the grammar is one of its token rules.
-use Rattle.productions.proofs.Common.{◌<◌, ℕ, List, Option, sym, subst, All, ⊎_elim, IfSome, All-head, All-tail, Symbol, Terminal, Nonterminal, InFirst, At_once, Within, After, MayFollow, Shape, IsSound, IsKnown}
+use Rattle.productions.proofs.Std.{◌<◌, ℕ, List, Option, sym, subst, All, ⊎_elim, IfSome, All-head, All-tail}
+use Rattle.productions.proofs.Common.{Symbol, Terminal, Nonterminal, InFirst, At_once, Within, After, MayFollow, Shape, IsSound, IsKnown}
 
 module _ (g : Shape) (sound : IsSound g) where
   pub begins_known : (a : ℕ) {ss : List Symbol} → InFirst g.grammar a ss → All (IsKnown g) ss → a < g.grammar.rules

@@ -1,5 +1,5 @@
 -- The numbers of productions by their left sides, with one production more.
-use Rattle.productions.proofs.Common.{◌≡◌, ◌+◌, ◌<◌, ℕ, List, [], ◌∷◌, ◌++◌, All, AllPairs, Contains, length, slice_index_or, slice_set, sym, subst, ⊎_elim, arith, ap, ◌∙◌, get_or-set_same, get_or-set_other, cases_eq, All-push, Contains-push, Contains-append_left, all_pairs_push}
+use Rattle.productions.proofs.Std.{◌≡◌, ◌+◌, ◌<◌, ℕ, List, [], ◌∷◌, ◌++◌, All, AllPairs, Contains, length, slice_index_or, slice_set, sym, subst, ⊎_elim, arith, ap, ◌∙◌, get_or-set_same, get_or-set_other, cases_eq, All-push, Contains-push, Contains-append_left, all_pairs_push}
 
 module _ (left : ℕ → ℕ) (rows : List (List ℕ)) (at : ℕ) (within : left at < length rows) where
   abbrev pub row : List ℕ

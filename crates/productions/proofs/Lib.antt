@@ -1,4 +1,5 @@
 pub mod Common
+pub mod Std
 pub mod Fixpoint
 pub mod Numbers
 pub mod EachMore

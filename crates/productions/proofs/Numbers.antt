@@ -1,5 +1,6 @@
 -- Productions by their numbers.
-use Rattle.productions.proofs.Common.{◌≡◌, ◌<◌, ℕ, List, [], length, slice_get, None, inl, inr, slice_get-get_or, slice_get_cases, get_or_from_slice_get, Symbol, Grammar, HasProduction, production_of, left_of, right_of}
+use Rattle.productions.proofs.Std.{◌≡◌, ◌<◌, ℕ, List, [], length, slice_get, None, inl, inr, slice_get-get_or, slice_get_cases, get_or_from_slice_get}
+use Rattle.productions.proofs.Common.{Symbol, Grammar, HasProduction, production_of, left_of, right_of}
 
 pub has_production : (g : Grammar) (p : ℕ) → p < length g.productions → HasProduction g p (left_of g p) (right_of g p)
 has_production g p l = slice_get-get_or g.productions p (record { left = 0; right = [] }) l

@@ -1,5 +1,6 @@
 -- The numbers of symbols.
-use Rattle.productions.proofs.Common.{◌≡◌, ◌+◌, ◌-◌, ℕ, ap, ◌∙◌, inl, inr, arith, if◌then◌else◌, cases_lt, lt-ltb, le-ltb, Symbol, Terminal, Nonterminal, Grammar, Shape, IsKnown, number, symbol_of}
+use Rattle.productions.proofs.Std.{◌≡◌, ◌+◌, ◌-◌, ℕ, ap, ◌∙◌, inl, inr, arith, if◌then◌else◌, cases_lt, lt-ltb, le-ltb}
+use Rattle.productions.proofs.Common.{Symbol, Terminal, Nonterminal, Grammar, Shape, IsKnown, number, symbol_of}
 
 pub number-symbol_of : (g : Grammar) (k : ℕ) → number g (symbol_of g k) ≡ k
 number-symbol_of g k = elim (cases_lt k g.rules) [

@@ -1,5 +1,5 @@
 -- What can be decided.
-use Rattle.readings.proofs.Common.{◌≡◌, ◌<◌, ◌≤◌, ℕ, ◌⊎◌, inl, inr, ⊎_elim, arith, cases_lt, cases_eq}
+use Rattle.readings.proofs.Std.{◌≡◌, ◌<◌, ◌≤◌, ℕ, ◌⊎◌, inl, inr, ⊎_elim, arith, cases_lt, cases_eq}
 
 abbrev pub Decided : Type 0 → Type 0
 Decided A = A ⊎ ¬ A

@@ -1,5 +1,7 @@
 -- Of each edit an answer is given: whether a node is kept can be decided, so that those that lie in no kept one can be counted.
-use Rattle.readings.proofs.Common.{◌≡◌, ◌<◌, ◌≤◌, ℕ, ◌+◌, List, [], ◌∷◌, length, refl, sym, ap, subst, ◌∙◌, ◌⊎◌, inl, inr, ⊎_elim, arith, Option, cases_eq, head-eq_of_cons-eq, tail-eq_of_cons-eq, Edit, Kind, Invalid, StandsIn, Top, Below, Past, place_of, all_branches, changed, Splice, made, splice, IsTouched, IsMoved, IsKept, Built, Nothing, Kept, New, Tree, Forest, Leaf, Branch, Nil, Cons, trees, yield, yields, FileGrammar, stands_split, not_in_leaf, nowhere, stands_in_prefix, Reading, AlwaysAnswers, Makes, AlwaysCounts, IsAbove, number_after, edit_of, LastEdit}
+use Rattle.readings.proofs.Std.{◌≡◌, ◌<◌, ◌≤◌, ℕ, ◌+◌, List, [], ◌∷◌, length, refl, sym, ap, subst, ◌∙◌, ◌⊎◌, inl, inr, ⊎_elim, arith, Option, cases_eq, head-eq_of_cons-eq, tail-eq_of_cons-eq}
+use Rattle.readings.proofs.Common.{Edit, Kind, Invalid, StandsIn, Top, Below, Past, place_of, all_branches, changed, Splice, made, splice, IsTouched, IsMoved, IsKept, Built, Nothing, Kept, New, Tree, Forest, Leaf, Branch, Nil, Cons, trees, yield, yields}
+use Rattle.readings.proofs.Common.{FileGrammar, stands_split, not_in_leaf, nowhere, stands_in_prefix, Reading, AlwaysAnswers, Makes, AlwaysCounts, IsAbove, number_after, edit_of, LastEdit}
 use Rattle.definitions.specs.declared.Kind.TheVariants.{Rule as Terminal}
 use Rattle.definitions.specs.TreeEdits.{Token}
 use Rattle.readings.proofs.Decided.{Decided, both_decided, all_decided, either_decided, not_decided, less_decided, most_decided, same_decided}

@@ -1,5 +1,6 @@
 -- Of each edit at most one answer is given, and of each document at most one list of counts.
-use Rattle.readings.proofs.Common.{◌≡◌, ℕ, List, length, sym, ap, subst, ◌∙◌, ◌⊎◌, inl, inr, Option, Some, None, Range, Stats, Encoding, all_branches, FileGrammar, one_built, Reading, AnswersOnce, IsNext, Makes, AreStats, ReportsLast, CountsOnce, IsAbove, number_after, edit_of, without_nodes, LastEdit, OpenDocument}
+use Rattle.readings.proofs.Std.{◌≡◌, ℕ, List, length, sym, ap, subst, ◌∙◌, ◌⊎◌, inl, inr, Option, Some, None}
+use Rattle.readings.proofs.Common.{Range, Stats, Encoding, all_branches, FileGrammar, one_built, Reading, AnswersOnce, IsNext, Makes, AreStats, ReportsLast, CountsOnce, IsAbove, number_after, edit_of, without_nodes, LastEdit, OpenDocument}
 use Rattle.readings.proofs.Decided.{Decided, both_decided, either_decided, less_decided, same_decided}
 
 pub above_or_not : (last : Option LastEdit) (number : ℕ) → Decided (IsAbove last number)

@@ -1,5 +1,6 @@
 -- Each text that fits has a reading, and each reading an answer to each question.
-use Rattle.readings.proofs.Common.{◌≡◌, ℕ, zero, suc, ◌+◌, true, List, [], ◌∷◌, take, refl, subst, arith, Option, None, Kind, Position, Range, Encoding, Diagnostic, AreDocumentTrees, IsVerdict, IsViable, Verdict, HasTree, FaultAt, FaultAtEnd, offset, Token, kinds, Tree, FileGrammar, IsDiagnosis, IsFaultAfter, fits, Reading, IsReading, AreSelections, AlwaysAnswers, LayersAnswer}
+use Rattle.readings.proofs.Std.{◌≡◌, ℕ, zero, suc, ◌+◌, true, List, [], ◌∷◌, take, refl, subst, arith, Option, None}
+use Rattle.readings.proofs.Common.{Kind, Position, Range, Encoding, Diagnostic, AreDocumentTrees, IsVerdict, IsViable, Verdict, HasTree, FaultAt, FaultAtEnd, offset, Token, kinds, Tree, FileGrammar, IsDiagnosis, IsFaultAfter, fits, Reading, IsReading, AreSelections, AlwaysAnswers, LayersAnswer}
 use Rattle.readings.proofs.Texts.{is_text}
 use Rattle.readings.proofs.Trees.{document_rooted}
 

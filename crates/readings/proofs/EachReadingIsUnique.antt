@@ -1,5 +1,7 @@
 -- A text has one reading by a grammar file, and a reading has one answer to each question.
-use Rattle.readings.proofs.Common.{◌≡◌, ℕ, Bool, List, [], ◌∷◌, sym, ap, subst, ◌∙◌, reverse, map, length, Option, Some, Kind, Position, Range, Encoding, Expression, AreFolds, Diagnostic, IsSelection, diagnostic, range_of, AreDocumentTrees, IsNodeOf, HasNoConflict, IsExpected, IsVerdict, Verdict, HasTree, offset, AreTokens, Placed, Token, kinds, Grammar, Tree, FileGrammar, AreFoldsOf, IsSelectionOf, placed_parts, IsDiagnosis, IsFaultAfter, looks, Reading, IsReading, AreSelections, AnswersOnce}
+use Rattle.readings.proofs.Std.{◌≡◌, ℕ, Bool, List, [], ◌∷◌, sym, ap, subst, ◌∙◌, reverse, map, length, Option, Some}
+use Rattle.readings.proofs.Common.{Kind, Position, Range, Encoding, Expression, AreFolds, Diagnostic, IsSelection, diagnostic, range_of, AreDocumentTrees, IsNodeOf, HasNoConflict, IsExpected, IsVerdict, Verdict, HasTree, offset, AreTokens, Placed, Token, kinds, Grammar, Tree}
+use Rattle.readings.proofs.Common.{FileGrammar, AreFoldsOf, IsSelectionOf, placed_parts, IsDiagnosis, IsFaultAfter, looks, Reading, IsReading, AreSelections, AnswersOnce}
 
 -- of each thing that an answer is made of there is one
 pub record Unique : Type 0 where

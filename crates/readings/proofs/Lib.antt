@@ -1,4 +1,5 @@
 pub mod Common
+pub mod Std
 pub mod Texts
 pub mod Results
 pub mod SumsRows

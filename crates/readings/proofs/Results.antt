@@ -1,5 +1,5 @@
 -- What a function answers, said in other words.
-use Rattle.readings.proofs.Common.{Result, Ok, Err, IfOk}
+use Rattle.readings.proofs.Std.{Result, Ok, Err, IfOk}
 
 -- what follows of two facts of a value
 pub if_ok_both : {T E : Type 0} {P Q R : T → Type 0} (r : Result T E) → ((x : T) → P x → Q x → R x) → IfOk r P → IfOk r Q → IfOk r R

@@ -1,5 +1,7 @@
 -- Texts that fit.
-use Rattle.readings.proofs.Common.{◌≡◌, ◌≤◌, ◌<◌, ℕ, Bool, true, false, List, [], ◌∷◌, length, refl, ap, arith, leb-true, leb-false, le-leb, ◌&&◌, nat_le, encode_utf8_all, chars, all_scalars, IsUtf8, AllByRecursion, and_from, and_parts, lt-leb, encodes-chars, chars-encodes, scalars-chars, recursion_from_All, All-from_recursion, IsCharacter, IsText, IsScalar-from_character, IsCharacter-from_scalar, fits}
+use Rattle.readings.proofs.Std.{◌≡◌, ◌≤◌, ◌<◌, ℕ, Bool, true, false, List, [], ◌∷◌, length, refl, ap, ◌&&◌, nat_le, encode_utf8_all, chars, all_scalars, IsUtf8, AllByRecursion}
+use Rattle.readings.proofs.Std.{arith, leb-true, leb-false, le-leb, and_from, and_parts, lt-leb, encodes-chars, chars-encodes, scalars-chars, recursion_from_All, All-from_recursion}
+use Rattle.readings.proofs.Common.{IsCharacter, IsText, IsScalar-from_character, IsCharacter-from_scalar, fits}
 
 pub all_scalars_in : (cs : List ℕ) → AllByRecursion IsCharacter cs → all_scalars cs ≡ true
 all_scalars_in [] all = refl

@@ -1,5 +1,6 @@
 -- The trees of a document: they are trees of the grammar, and cover no more kinds than there are.
-use Rattle.readings.proofs.Common.{length-take, ◌≡◌, ◌≤◌, ◌+◌, ℕ, List, [], ◌∷◌, length, take, sym, ap, subst, ◌∙◌, arith, append-nil, length-append, Kind, Symbol, Terminal, Nonterminal, AreDocumentTrees, Verdict, HasTree, FaultAt, FaultAtEnd, IsVerdict, Way, WayAmong, At, Down, This, Next, IsSettled, Grammar, Tree, Forest, IsTree, AreTrees, HaveRoots, all_kinds}
+use Rattle.readings.proofs.Std.{length-take, ◌≡◌, ◌≤◌, ◌+◌, ℕ, List, [], ◌∷◌, length, take, sym, ap, subst, ◌∙◌, arith, append-nil, length-append}
+use Rattle.readings.proofs.Common.{Kind, Symbol, Terminal, Nonterminal, AreDocumentTrees, Verdict, HasTree, FaultAt, FaultAtEnd, IsVerdict, Way, WayAmong, At, Down, This, Next, IsSettled, Grammar, Tree, Forest, IsTree, AreTrees, HaveRoots, all_kinds}
 
 module _ (g : Grammar) where
   -- left siblings on a way through a tree are trees

@@ -1,4 +1,5 @@
 pub mod Common
+pub mod Std
 pub mod Replies
 pub mod SentItems
 pub mod Objects

@@ -1,5 +1,5 @@
 -- An object is sent by its begin, its members in turn, and its end.
-use Rattle.replies.proofs.Common.{Result, OnOk, ⊤, on_ok_weaker, Log}
+use Rattle.replies.proofs.Std.{Result, OnOk, ⊤, on_ok_weaker, Log}
 
 -- an object is sent if it was begun, up to a log, and its members and its end are sent from there
 pub sends_object : {E End : Type 0} (Begin Members : Log → Type 0) (begun : Log) (r : Result ⊤ E) → Begin begun

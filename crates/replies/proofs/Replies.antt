@@ -1,5 +1,9 @@
 -- No reply has a number with a fraction.
-use Rattle.replies.proofs.Common.{◌≡◌, ℕ, ℤ, pos, negsuc, false, List, [], ◌∷◌, map, refl, ap, ◌∙◌, ◌||◌, Option, Some, None, Range, Data, null, number, string, of_integer, items_of, has_float, items_have_float, Ident, named, numbered, Answer, capabilities_reply, null_reply, text_reply, tokens_reply, tree_reply, stats_reply, folds_reply, selections_reply, published_diagnostics, log_message, error_reply, capabilities, id_data, maybe_id_data, row_data, result_data, reply_data, document_data, rows_data, stats_data, fold_data, folds_data, selection_data, selections_data, diagnostic_list, published, code_of}
+use Rattle.replies.proofs.Std.{◌≡◌, ℕ, ℤ, pos, negsuc, false, List, [], ◌∷◌, map, refl, ap, ◌∙◌, ◌||◌, Option, Some, None, Data, null, number, string, of_integer, items_of, has_float, items_have_float}
+use Rattle.replies.proofs.Common.{Range}
+use Rattle.replies.proofs.Common.{Ident, named, numbered, Answer}
+use Rattle.replies.proofs.Common.{capabilities_reply, null_reply, text_reply, tokens_reply, tree_reply, stats_reply, folds_reply, selections_reply, published_diagnostics, log_message, error_reply, capabilities, id_data, maybe_id_data, row_data, result_data, reply_data, document_data, rows_data}
+use Rattle.replies.proofs.Common.{stats_data, fold_data, folds_data, selection_data, selections_data, diagnostic_list, published, code_of}
 
 pub integer_is_whole : (z : ℤ) → has_float (number (of_integer z)) ≡ false
 integer_is_whole (pos n) = refl

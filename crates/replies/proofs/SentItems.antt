@@ -1,5 +1,5 @@
 -- What is sent of each item of a list, item by item.
-use Rattle.replies.proofs.Common.{◌≡◌, ℕ, suc, ◌+◌, ◌<◌, ◌≤◌, List, [], ◌∷◌, length, drop, get_or, sym, ap, ◌∙◌, subst, Some, drop_more, drop_all, Log, Logs, seq_begins, seq_ends, Data, Items, no_items, item, array, items_len, SendsValue, SendsItems}
+use Rattle.replies.proofs.Std.{◌≡◌, ℕ, suc, ◌+◌, ◌<◌, ◌≤◌, List, [], ◌∷◌, length, drop, get_or, sym, ap, ◌∙◌, subst, Some, drop_more, drop_all, Log, Logs, seq_begins, seq_ends, Data, Items, no_items, item, array, items_len, SendsValue, SendsItems}
 
 -- a sending of items, each by what `one` says of it
 module _ {A : Type 0} (one : A → Data) (all : List A → Items) (none_left : all [] ≡ no_items) (one_left : (x : A) (xs : List A) → all (x ∷ xs) ≡ item (one x) (all xs)) where

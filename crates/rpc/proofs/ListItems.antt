@@ -1,5 +1,6 @@
 -- What is read of each item of a list, item by item.
-use Rattle.rpc.proofs.Common.{◌≡◌, ℕ, ◌+◌, ◌<◌, ◌≤◌, List, [], ◌∷◌, ◌++◌, length, drop, get_or, refl, sym, ap, ◌∙◌, Option, Some, None, option_map, at_drop_more, at_drop_all, append_assoc, append-nil, Value, Data, Items, no_items, item, view, items_view, first_and}
+use Rattle.rpc.proofs.Std.{◌≡◌, ℕ, ◌+◌, ◌<◌, ◌≤◌, List, [], ◌∷◌, ◌++◌, length, drop, get_or, refl, sym, ap, ◌∙◌, Option, Some, None, option_map, at_drop_more, at_drop_all, append_assoc, append-nil, Value, Data, Items, no_items, item, view, items_view}
+use Rattle.rpc.proofs.Common.{first_and}
 
 -- a reading of items, where each item is read as `one` does
 module _ {Y : Type 0} (one : Data → Option Y) (all : Items → Option (List Y)) (none_left : all no_items ≡ Some [])

@@ -1,5 +1,8 @@
 -- A JSON value of whole numbers and texts in UTF-8, with its keys in order, is written and read back.
-use Rattle.rpc.proofs.Common.{ArePrintable-json_tokens, Bool, Data, IsAscii-decimal, IsAscii-signed, IsNumber-decimal, IsNumber-signed_decimal, IsUtf8, IsUtf8-append, IsUtf8-are_ascii, IsUtf8-boolean, IsUtf8-from_ascii, IsUtf8-nil, IsUtf8-quoted, Items, List, Members, Num, Some, [], ap, append-nil, ap₂, arith, array, boolean, comma_if, compact_text, depth, false, item, items_depth, items_outline, items_text, max, max_depth, member, members_depth, members_outline, members_text, negative, negsuc, no_items, no_members, null, number, number_of-decimal, number_of-negative, number_text, object, of_items, of_json, of_members, option_and_then, option_map, outline, print-outline, put, read, refl, string, subst, suc, sym, tokens, tokens-print, true, unsigned, value-json_tokens, ℕ, ⊤, ◌<◌, ◌^◌, ◌∙◌, ◌∷◌, ◌≡◌, ◌≤◌}
+use Rattle.rpc.proofs.Std.{ArePrintable-json_tokens, IsNumber-decimal, IsNumber-signed_decimal, IsUtf8-are_ascii, IsUtf8-boolean, IsUtf8-quoted, number_of-decimal, number_of-negative, print-outline, tokens-print, value-json_tokens}
+use Rattle.rpc.proofs.Std.{Data, Items, Members, Num, array, boolean, depth, item, items_depth, member, members_depth, negative, no_items, no_members, null, number, object, put, string, unsigned, comma_if, compact_text, items_outline, items_text, members_outline, members_text, number_text, outline}
+use Rattle.rpc.proofs.Std.{max_depth, of_items, of_json, of_members, read, tokens}
+use Rattle.rpc.proofs.Std.{Bool, IsAscii-decimal, IsAscii-signed, IsUtf8, IsUtf8-append, IsUtf8-from_ascii, IsUtf8-nil, List, Some, [], ap, append-nil, ap₂, arith, false, max, negsuc, option_and_then, option_map, refl, subst, suc, sym, true, ℕ, ⊤, ◌<◌, ◌^◌, ◌∙◌, ◌∷◌, ◌≡◌, ◌≤◌}
 use Rattle.json.specs.Json as json
 use Rattle.json.specs.Tree as tree
 use Rattle.rpc.proofs.Strings.{IsUtf8-one}

@@ -1,5 +1,6 @@
 -- What a content is read as, from what the JSON reader says of it.
-use Rattle.rpc.proofs.Common.{◌≡◌, ℕ, List, Bool, true, false, refl, Some, None, if◌then◌else◌, IsUtf8, is_utf8, IsUtf8-from_is_utf8, is_utf8-from_IsUtf8, Data, read, received_in, received_as, message_of, unread}
+use Rattle.rpc.proofs.Std.{◌≡◌, ℕ, List, Bool, true, false, refl, Some, None, if◌then◌else◌, IsUtf8, is_utf8, IsUtf8-from_is_utf8, is_utf8-from_IsUtf8, Data, read}
+use Rattle.rpc.proofs.Common.{received_in, received_as, message_of, unread}
 
 pub received_value : (content : List ℕ) (d : Data) → IsUtf8 content → read content ≡ Some d → received_in content ≡ message_of d
 received_value content d utf8 is = rw (is_utf8-from_IsUtf8 content utf8, is) refl

@@ -1,5 +1,7 @@
 -- The strings of a JSON text in UTF-8 are in UTF-8 themselves: from its bytes to its strings, its tokens and its values.
-use Rattle.rpc.proofs.Common.{◌≡◌, ℕ, ◌+◌, ◌*◌, ◌<◌, Bool, true, false, cond, ◌&&◌, ◌||◌, ◌==◌, List, [], ◌∷◌, ◌++◌, length, drop, get_or, Option, Some, None, IfSome, option_map, option_and_then, IsUtf8, refl, sym, ap, ◌∙◌, subst, arith, nat_lt, length-append, take_at, drop_at, get_or-append_seam, cond_both, and_parts, eqb-true, ltb-true, IsUtf8-append, IsUtf8-encode, encode_ascii, IsUtf8-take, IsUtf8-drop, IsCharBoundary-before_ascii, IsCharBoundary-after_ascii, IsScalar, is_digit, digit_value, encode_utf8, Within, plain, after_backslash, after_u, after_high, content, prepend, code_unit, short_escape, is_high_surrogate, is_low_surrogate, surrogate_pair, low_scalar}
+use Rattle.rpc.proofs.Std.{◌≡◌, ℕ, ◌+◌, ◌*◌, ◌<◌, Bool, true, false, cond, ◌&&◌, ◌||◌, ◌==◌, List, [], ◌∷◌, ◌++◌, length, drop, get_or, Option, Some, None, IfSome, option_map, option_and_then, IsUtf8, refl, sym, ap, ◌∙◌, subst, nat_lt, IsScalar, is_digit, digit_value, encode_utf8}
+use Rattle.rpc.proofs.Std.{arith, length-append, take_at, drop_at, get_or-append_seam, cond_both, and_parts, eqb-true, ltb-true, IsUtf8-append, IsUtf8-encode, encode_ascii, IsUtf8-take, IsUtf8-drop, IsCharBoundary-before_ascii, IsCharBoundary-after_ascii, low_scalar}
+use Rattle.rpc.proofs.Std.{Within, plain, after_backslash, after_u, after_high, content, prepend, code_unit, short_escape, is_high_surrogate, is_low_surrogate, surrogate_pair}
 use Rattle.std.proofs.Common.{append_assoc, append-nil}
 use Rattle.json.specs.Ascii as ascii
 

@@ -1,5 +1,12 @@
 -- The texts of what is received are in UTF-8.
-use Rattle.rpc.proofs.Common.{◌≡◌, ℕ, Bool, true, false, List, [], ◌∷◌, map, All, codes, Option, Some, None, IfSome, option_map, option_and_then, if◌then◌else◌, ℤ, is_none, is_some, IsUtf8, refl, sym, subst, All-append, All-cons, All-nil, IsUtf8-from_is_utf8, scalars-chars, encodes-chars, ⊤, nat_cmp, slice_cmp, is_utf8, bytes_eq, Data, null, string, Items, no_items, item, array, Members, no_members, member, object, get, get_member, as_str, as_array, as_object, read, Position, Range, integer_of, text_at, Ident, numbered, Question, its_text, its_tokens, its_tree, its_folds, initialize, shutdown, initialized, exit, ignored, unknown, TextChange, Notification, Received, refused, invalid, params, accepted, request, notification, ident_of, id_at, uri_at, version_at, document_text, maybe_range, change_with, change_of, first_and, changes_of, changes_at, positions_at, unit_at, document_request, stats_request, selections_request, request_of, open_notification, read_open, change_notification, read_change, close_notification, read_close, notification_of, of_method, is_reply, is_invalid, params_at, message_of, value_of, received_as, Receives, IsSpelled, id_texts, notification_texts, texts_of}
+use Rattle.rpc.proofs.Std.{◌≡◌, ℕ, Bool, true, false, List, [], ◌∷◌, map, All, codes, Option, Some, None, IfSome, option_map, option_and_then, if◌then◌else◌, ℤ, is_none, is_some, IsUtf8, refl, sym, subst, ⊤, nat_cmp, slice_cmp, is_utf8, bytes_eq}
+use Rattle.rpc.proofs.Std.{All-append, All-cons, All-nil, IsUtf8-from_is_utf8, scalars-chars, encodes-chars}
+use Rattle.rpc.proofs.Std.{Data, null, string, Items, no_items, item, array, Members, no_members, member, object, get, get_member, as_str, as_array, as_object, read}
+use Rattle.rpc.proofs.Common.{Position, Range}
+use Rattle.rpc.proofs.Common.{integer_of, text_at, Question, its_text, its_tokens, its_tree, its_folds, initialize, shutdown, initialized, exit, ignored, unknown, TextChange, Notification, Received, refused, invalid, params, accepted, request, notification}
+use Rattle.rpc.proofs.Common.{ident_of, id_at, uri_at, version_at, document_text, maybe_range, change_with, change_of, first_and, changes_of, changes_at, positions_at, unit_at, document_request, stats_request, selections_request, request_of, open_notification, read_open, change_notification}
+use Rattle.rpc.proofs.Common.{read_change, close_notification, read_close, notification_of, of_method, is_reply, is_invalid, params_at, message_of, value_of, received_as, Receives, IsSpelled, id_texts, notification_texts, texts_of}
+use Rattle.rpc.proofs.Common.{Ident, numbered}
 use Rattle.std.proofs.Common.{unwrap_or}
 use Rattle.rpc.proofs.Strings.{if_map, if_then, cond_either}
 use Rattle.rpc.proofs.Values.{IsSpelledData, AreSpelledItems, AreSpelledMembers, any, by_order, read_spelled}

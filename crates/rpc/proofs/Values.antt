@@ -1,5 +1,8 @@
 -- The strings of a JSON value are in UTF-8 where its text is: of the text's tokens, of the grammar's value, and of the data that it is.
-use Rattle.rpc.proofs.Common.{◌≡◌, ℕ, zero, suc, Bool, true, false, cond, ◌==◌, List, [], ◌∷◌, ◌++◌, length, Option, Some, None, IfSome, option_map, option_and_then, IsUtf8, refl, arith, ⊤, slice_cmp, nat_cmp, match_ordering, Ordering, Less, Equal, Greater, plain, content, word, number_before, after_number, head, is_operator, is_space, ends_word, Token, Lexeme, token, comma, colon, Class, quote, backslash, operator, space, other, class, Mode, between, in_word, in_string, in_escape, operator_lexeme, string_token, lex_byte, lex, Place, fresh, after_value, after_comma, after_key, begins_colon, may_begin, may_close, if_allowed, place_token, punctuate, tokens, Data, number_of, of_json, of_items, of_members, max_depth, read}
+use Rattle.rpc.proofs.Std.{◌≡◌, ℕ, zero, suc, Bool, true, false, cond, ◌==◌, List, [], ◌∷◌, ◌++◌, length, Option, Some, None, IfSome, option_map, option_and_then, IsUtf8, refl, arith, ⊤, slice_cmp, nat_cmp, match_ordering, Ordering, Less, Equal, Greater}
+use Rattle.rpc.proofs.Std.{plain, content, word, number_before, after_number, head, is_operator, is_space, ends_word, Token, Lexeme, Class, Mode, Place}
+use Rattle.rpc.proofs.Std.{token, comma, colon, quote, backslash, operator, space, other, class, between, in_word, in_string, in_escape, operator_lexeme, string_token, lex_byte, lex, fresh, after_value, after_comma, after_key, begins_colon, may_begin, may_close, if_allowed, place_token, punctuate}
+use Rattle.rpc.proofs.Std.{tokens, Data, number_of, of_json, of_items, of_members, max_depth, read}
 use Rattle.json.specs.Ascii as ascii
 use Rattle.json.specs.Json as json
 use Rattle.serde_json.specs.Data as datum

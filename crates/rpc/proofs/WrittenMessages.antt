@@ -1,5 +1,13 @@
 -- What a client writes for a message is read as that message.
-use Rattle.rpc.proofs.Common.{All, All-cons, All-head, All-nil, All-tail, Bool, Data, Encoding, IdFits, Ident, IsSpelled, IsUtf8, IsUtf8-are_ascii, List, None, Notification, NotificationFits, Option, Position, PositionFits, Question, QuestionFits, Range, RangeFits, Receives, Request, RequestFits, Some, TextChange, Utf16, Utf32, Utf8, [], about, accepted, ap, ap₂, are_ascii, arith, asking, change_data, change_notification, change_of, change_text, change_with, changes_of, chars, close, codes, compact_text, depth, exit, false, first_and, fits_i32, fits_u31, id_data, id_texts, ident_of, if◌then◌else◌, initialize, initialized, integer_of, is_utf8-from_IsUtf8, items_depth, items_of, its_folds, its_selections, its_text, its_tokens, its_tree, lt-ltb, ltb-true, malformed, map, max_depth, message_of, named, nat_lt, negsuc, notification, notification_data, notification_texts, null, number, numbered, of_changes, of_client, of_document, of_integer, of_opening, of_positions, open_notification, open_text, option_map, place, pos, position_data, position_of, positions_of, question_data, range_data, range_of, received_as, refl, request, request_data, request_of, request_texts, selections_request, shutdown, span, stats, subst, sym, telling, texts_of, true, unit_name, value_of, with_range, ℕ, ℤ, ◌++◌, ◌<◌, ◌^◌, ◌∙◌, ◌∷◌, ◌≡◌, ◌≤◌}
+use Rattle.rpc.proofs.Std.{All, Bool, IsUtf8, List, None, Option, Some, [], ap, ap₂, chars, codes, false, if◌then◌else◌, map, nat_lt, negsuc, option_map, pos, refl, subst, sym, true, ℕ, ℤ, ◌++◌, ◌<◌, ◌^◌, ◌∙◌, ◌∷◌, ◌≡◌, ◌≤◌}
+use Rattle.rpc.proofs.Std.{All-cons, All-head, All-nil, All-tail, arith, is_utf8-from_IsUtf8, lt-ltb, ltb-true}
+use Rattle.rpc.proofs.Std.{Data, IsUtf8-are_ascii, are_ascii, compact_text, depth, items_depth, items_of, max_depth, null, number, of_integer}
+use Rattle.rpc.proofs.Common.{Encoding, Position, Range, Utf16, Utf32, Utf8}
+use Rattle.rpc.proofs.Common.{IdFits, NotificationFits, PositionFits, QuestionFits, RangeFits, RequestFits, asking, change_data, notification_data, of_changes, of_client, of_document, of_opening, of_positions, question_data, request_data, telling, with_range}
+use Rattle.rpc.proofs.Common.{IsSpelled, id_texts, notification_texts, request_texts, texts_of}
+use Rattle.rpc.proofs.Common.{Notification, Question, Request, TextChange, about, accepted, change_text, close, exit, initialize, initialized, its_folds, its_selections, its_text, its_tokens, its_tree, malformed, notification, open_text, request, shutdown, stats}
+use Rattle.rpc.proofs.Common.{Receives, change_notification, change_of, change_with, changes_of, first_and, ident_of, message_of, open_notification, place, position_of, positions_of, range_of, received_as, request_of, selections_request, span, value_of, fits_i32, fits_u31, integer_of}
+use Rattle.rpc.proofs.Common.{Ident, id_data, named, numbered, position_data, range_data, unit_name}
 use Rattle.rpc.proofs.Plain.{IsPlain, ArePlain, plain_utf8, read_again}
 
 -- ---- numbers

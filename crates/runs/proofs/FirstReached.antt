@@ -1,5 +1,6 @@
 -- The first item at which a goal is reached, where the run with it is known.
-use Rattle.runs.proofs.Common.{nought, suc, ◌<◌, ◌⊎◌, Bool, true, false, cases_lt, false≢true, take-append-le, take-append-drop, take_all, take-append-add, MonoidLaws, total, IsLeast, total-append, not_earlier, Counted, most, flattened, prefix-more, whole_at, ◌≡◌, ℕ, ◌+◌, ◌-◌, ◌≤◌, List, ◌++◌, length, take, drop, slice_get, Some, arith, refl, sym, ap, subst, inl, inr, ◌∙◌, length-append}
+use Rattle.runs.proofs.Std.{nought, suc, ◌<◌, ◌⊎◌, Bool, true, false, cases_lt, false≢true, take-append-le, take-append-drop, take_all, take-append-add, ◌≡◌, ℕ, ◌+◌, ◌-◌, ◌≤◌, List, ◌++◌, length, take, drop, slice_get, Some, arith, refl, sym, ap, subst, inl, inr, ◌∙◌, length-append}
+use Rattle.runs.proofs.Common.{MonoidLaws, total, IsLeast, total-append, not_earlier, Counted, most, flattened, prefix-more, whole_at}
 use Rattle.runs.proofs.Totals.{prefix, all_of, total-sum, items_before}
 
 -- i is the least number of items that go before the one at which the goal is reached

@@ -1,3 +1,4 @@
 pub mod Common
+pub mod Std
 mod FirstReached
 mod Totals

@@ -1,5 +1,6 @@
 -- What runs add up to, and how many items lie before the run with a given one.
-use Rattle.runs.proofs.Common.{nought, suc, ◌<◌, true, false, nat_lt, slice_index_or, ltb-true, ltb-false, take_more, MonoidLaws, total, saturated, saturated-exact, total-append, Counted, most, nothing, join_three, counted, flattened, prefix-le, ◌≡◌, ℕ, ◌+◌, ◌≤◌, List, [], ◌∷◌, ◌++◌, length, take, arith, refl, sym, ap, ◌∙◌, length-append}
+use Rattle.runs.proofs.Std.{nought, suc, ◌<◌, true, false, nat_lt, slice_index_or, ltb-true, ltb-false, take_more, ◌≡◌, ℕ, ◌+◌, ◌≤◌, List, [], ◌∷◌, ◌++◌, length, take, arith, refl, sym, ap, ◌∙◌, length-append}
+use Rattle.runs.proofs.Common.{MonoidLaws, total, saturated, saturated-exact, total-append, Counted, most, nothing, join_three, counted, flattened, prefix-le}
 
 -- the items before the run at place i
 abbrev pub prefix : {A : Type 0} → List (List A) → ℕ → List A

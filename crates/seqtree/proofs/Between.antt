@@ -1,5 +1,5 @@
 -- The items of a list that stand before, at and behind one of them.
-use Rattle.seqtree.proofs.Common.{◌≡◌, ℕ, zero, suc, ◌+◌, ◌<◌, List, [], ◌∷◌, ◌++◌, length, slice_get, Some, arith, refl, ap, ◌∙◌}
+use Rattle.seqtree.proofs.Std.{◌≡◌, ℕ, zero, suc, ◌+◌, ◌<◌, List, [], ◌∷◌, ◌++◌, length, slice_get, Some, arith, refl, ap, ◌∙◌}
 
 module _ {A : Type 0} where
   pub item_left : (xs ys : List A) (i : ℕ) → i < length xs → slice_get (xs ++ ys) i ≡ slice_get xs i

@@ -1,5 +1,6 @@
 -- Items cut into chunks, one chunk more at a time, the last one first.
-use Rattle.seqtree.proofs.Common.{arith, refl, sym, ap, subst, inl, inr, ◌∙◌, length-append, ◌≡◌, ℕ, ◌+◌, ◌<◌, ◌≤◌, ◌⊎◌, List, [], ◌∷◌, ◌++◌, length, All, cases_lt, append-nil, All-append, All-cons, All-nil, IsLarge, IsShort, IsMeasure, AreCut, IsCutOff}
+use Rattle.seqtree.proofs.Std.{arith, refl, sym, ap, subst, inl, inr, ◌∙◌, length-append, ◌≡◌, ℕ, ◌+◌, ◌<◌, ◌≤◌, ◌⊎◌, List, [], ◌∷◌, ◌++◌, length, All, cases_lt, append-nil, All-append, All-cons, All-nil}
+use Rattle.seqtree.proofs.Common.{IsLarge, IsShort, IsMeasure, AreCut, IsCutOff}
 use Rattle.seqtree.proofs.Joined.{joined-append}
 
 module _ {X A : Type 0} (items : X → List A) (size : List A → ℕ) (shortest longest : ℕ) (measure : IsMeasure size shortest longest) where

@@ -1,5 +1,7 @@
 -- Chunks of which at most one is small are few, and a change leaves it at that.
-use Rattle.seqtree.proofs.Common.{arith, refl, ap, inl, inr, ◌∙◌, cond, ◌≡◌, ℕ, zero, suc, ◌+◌, ◌*◌, ◌-◌, ◌<◌, ◌≤◌, ◌⊎◌, Bool, true, false, List, [], ◌∷◌, ◌++◌, length, take, drop, count_by, slice_get, Some, All, cases_lt, lt-ltb, le-ltb, ltb-false, drop-drop, All-head, All-tail, sum_by-cons, sum_by-append, sum_by-take-drop, count_by-le-length, joined, is_small, IsLarge, IsShort, IsMeasure}
+use Rattle.seqtree.proofs.Std.{arith, cases_lt, lt-ltb, le-ltb, ltb-false, drop-drop, All-head, All-tail, sum_by-cons, sum_by-append, sum_by-take-drop, count_by-le-length}
+use Rattle.seqtree.proofs.Std.{refl, ap, inl, inr, ◌∙◌, cond, ◌≡◌, ℕ, zero, suc, ◌+◌, ◌*◌, ◌-◌, ◌<◌, ◌≤◌, ◌⊎◌, Bool, true, false, List, [], ◌∷◌, ◌++◌, length, take, drop, count_by, slice_get, Some, All}
+use Rattle.seqtree.proofs.Common.{joined, is_small, IsLarge, IsShort, IsMeasure}
 use Rattle.seqtree.proofs.Joined.{dropped_more}
 
 module _ {X A : Type 0} (items : X → List A) (size : List A → ℕ) (shortest : ℕ) where

@@ -1,5 +1,6 @@
 -- The first item at which a sum reaches what is looked for, over the sides of a node.
-use Rattle.seqtree.proofs.Common.{◌≡◌, ℕ, suc, ◌+◌, ◌-◌, ◌<◌, ◌≤◌, Bool, true, false, List, [], ◌∷◌, ◌++◌, length, take, drop, sym, ap, ◌∙◌, inl, inr, arith, length-append, take-append-drop, take-append-add, take-append_seam, take-append-le, cases_lt, cases_Bool, MonoidLaws, total, IsLeast}
+use Rattle.seqtree.proofs.Std.{◌≡◌, ℕ, suc, ◌+◌, ◌-◌, ◌<◌, ◌≤◌, Bool, true, false, List, [], ◌∷◌, ◌++◌, length, take, drop, sym, ap, ◌∙◌, inl, inr, arith, length-append, take-append-drop, take-append-add, take-append_seam, take-append-le, cases_lt, cases_Bool}
+use Rattle.seqtree.proofs.Common.{MonoidLaws, total, IsLeast}
 use Rattle.seqtree.proofs.Totals.{total-append}
 
 module _ {A M : Type 0} {zero : M} {join : M → M → M} (measure : A → M) (laws : MonoidLaws zero join) (reached : M → Bool) (stays : (s r : M) → reached s ≡ true → reached (join s r) ≡ true) where

@@ -1,5 +1,6 @@
 -- A list whose chunks give way to other items: what stays the same as more chunks go into those items, and what a change leaves.
-use Rattle.seqtree.proofs.Common.{arith, sym, ap, subst, inl, inr, ◌∙◌, length-append, ◌≡◌, ℕ, ◌+◌, ◌-◌, ◌^◌, ◌<◌, ◌≤◌, ◌⊎◌, min, List, ◌++◌, length, take, drop, slice_get, Some, All, cases_lt, append_assoc, length-take, length-drop, drop_all, All-append, All-take, All-drop, joined, IsShort, IsMeasure, AreFew, AreCut, HasRoom, IsGap, IsCut}
+use Rattle.seqtree.proofs.Std.{arith, sym, ap, subst, inl, inr, ◌∙◌, length-append, ◌≡◌, ℕ, ◌+◌, ◌-◌, ◌^◌, ◌<◌, ◌≤◌, ◌⊎◌, min, List, ◌++◌, length, take, drop, slice_get, Some, All, cases_lt, append_assoc, length-take, length-drop, drop_all, All-append, All-take, All-drop}
+use Rattle.seqtree.proofs.Common.{joined, IsShort, IsMeasure, AreFew, AreCut, HasRoom, IsGap, IsCut}
 use Rattle.seqtree.proofs.Joined.{joined-append, prefix-more, dropped_more}
 use Rattle.seqtree.proofs.Few.{small, few, small_edited}
 

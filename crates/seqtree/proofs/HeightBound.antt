@@ -1,5 +1,6 @@
 -- The height of a balanced tree against its number of items.
-use Rattle.seqtree.proofs.Common.{ℕ, zero, suc, ◌+◌, ◌*◌, ◌^◌, ◌<◌, ◌≤◌, max, inl, inr, arith, two-pow-succ, pow-le-pow_right, cases_lt, ◌≡◌, length, subst, ap, ◌∙◌, digits_of, number_lt, number_digits_of, all_below_base_digits_of, IsLow, DifferByAtMost, digits}
+use Rattle.seqtree.proofs.Std.{ℕ, zero, suc, ◌+◌, ◌*◌, ◌^◌, ◌<◌, ◌≤◌, max, inl, inr, arith, two-pow-succ, pow-le-pow_right, cases_lt, ◌≡◌, length, subst, ap, ◌∙◌, digits_of, number_lt, number_digits_of, all_below_base_digits_of}
+use Rattle.seqtree.proofs.Common.{IsLow, DifferByAtMost, digits}
 
 -- a node over two low sides is low
 pub IsLow-fork : (a b m n : ℕ) → IsLow a m → IsLow b n → DifferByAtMost 1 a b → IsLow (max a b + 1) (m + 1 + n)

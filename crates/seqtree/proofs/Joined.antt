@@ -1,5 +1,7 @@
 -- The items of chunks, and what lies before and after one of them.
-use Rattle.seqtree.proofs.Common.{◌≡◌, ℕ, zero, suc, ◌+◌, ◌-◌, ◌<◌, ◌≤◌, ◌⊎◌, List, [], ◌∷◌, ◌++◌, length, take, drop, slice_get, slice_index_or, unwrap_or, Some, None, arith, refl, sym, ap, inl, inr, ◌∙◌, get_or, length-append, cases_lt, append-nil, length-take, take_all, drop_all, take_more, drop_more, take-append-le, drop-append-le, slice_get_within, slice_get_cases, unwrap_or-slice_get, none-some, take-append-add, drop-append-add, joined, IsCut}
+use Rattle.seqtree.proofs.Std.{◌≡◌, ℕ, zero, suc, ◌+◌, ◌-◌, ◌<◌, ◌≤◌, ◌⊎◌, List, [], ◌∷◌, ◌++◌, length, take, drop, slice_get, slice_index_or, unwrap_or, Some, None, refl, sym, ap, inl, inr, ◌∙◌, get_or}
+use Rattle.seqtree.proofs.Std.{arith, length-append, cases_lt, append-nil, length-take, take_all, drop_all, take_more, drop_more, take-append-le, drop-append-le, slice_get_within, slice_get_cases, unwrap_or-slice_get, none-some, take-append-add, drop-append-add}
+use Rattle.seqtree.proofs.Common.{joined, IsCut}
 use Rattle.std.proofs.Common.{append_assoc}
 use Rattle.std.proofs.lemmas.List.{take-append-drop}
 

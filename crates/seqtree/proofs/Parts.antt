@@ -1,5 +1,6 @@
 -- The parts that an iterator has still to give, as a stack, and what is left of a node's items.
-use Rattle.seqtree.proofs.Common.{◌≡◌, ℕ, suc, ◌+◌, ◌<◌, ◌≤◌, List, [], ◌∷◌, ◌++◌, length, length-append, drop, refl, sym, ap, ◌∙◌, arith, append-nil, drop-append-le, drop-append_seam, drop-append-add, part_items, items_ahead, AreParts, IsPart, Part}
+use Rattle.seqtree.proofs.Std.{◌≡◌, ℕ, suc, ◌+◌, ◌<◌, ◌≤◌, List, [], ◌∷◌, ◌++◌, length, length-append, drop, refl, sym, ap, ◌∙◌, arith, append-nil, drop-append-le, drop-append_seam, drop-append-add}
+use Rattle.seqtree.proofs.Common.{part_items, items_ahead, AreParts, IsPart, Part}
 use Rattle.std.proofs.Common.{append_assoc}
 
 module _ {A S : Type 0} where

@@ -1,5 +1,6 @@
 -- Bytes that are read and written one after another, and the contents of frames.
-use Rattle.server.proofs.Common.{◌≡◌, ◌≢◌, ℕ, List, [], ◌∷◌, ◌++◌, refl, ap, sym, ◌∙◌, subst, append_assoc, Option, Some, None, Result, Ok, Err, OnErr, Appends, Consumes, Keeps, map-append, contents, AppendsPrefix, FrameFault, Tail, Open, Faulty, GoesOn, IsOpen, fault_of, finish_of}
+use Rattle.server.proofs.Std.{◌≡◌, ◌≢◌, ℕ, List, [], ◌∷◌, ◌++◌, refl, ap, sym, ◌∙◌, subst, append_assoc, Option, Some, None, Result, Ok, Err, OnErr, Appends, Consumes, Keeps, map-append}
+use Rattle.server.proofs.Common.{contents, AppendsPrefix, FrameFault, Tail, Open, Faulty, GoesOn, IsOpen, fault_of, finish_of}
 use Rattle.std.proofs.Common.{append-nil}
 use Rattle.frames.specs.declared.decoder.Frame.{Frame}
 use Rattle.frames.specs.declared.fault.FrameFault.TheVariants as frame

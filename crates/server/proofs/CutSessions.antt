@@ -1,5 +1,6 @@
 -- Sessions that are cut short: a prefix of the answers of a run is written.
-use Rattle.server.proofs.Common.{ℕ, List, [], ◌++◌, refl, ap, sym, subst, ◌∙◌, append_assoc, ◌≡◌, Option, Some, None, Result, Ok, Err, OnErr, Appends, Keeps, State, bytes_of, AppendsPrefix, Served, ServedInPart, HasServed, CanServe, IsCutShort, RunFault, some_run}
+use Rattle.server.proofs.Std.{ℕ, List, [], ◌++◌, refl, ap, sym, subst, ◌∙◌, append_assoc, ◌≡◌, Option, Some, None, Result, Ok, Err, OnErr, Appends, Keeps}
+use Rattle.server.proofs.Common.{State, bytes_of, AppendsPrefix, Served, ServedInPart, HasServed, CanServe, IsCutShort, RunFault, some_run}
 use Rattle.std.proofs.Common.{append-nil}
 use Rattle.server.proofs.Bytes.{appends_kept, prefix_after, prefix_all, prefix_nothing, prefix_of_more}
 use Rattle.server.proofs.Runs.{run_then, run_on, bytes_then}

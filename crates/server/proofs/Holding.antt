@@ -1,5 +1,6 @@
 -- A document that came to stand otherwise.
-use Rattle.server.proofs.Common.{◌≡◌, ℕ, ℤ, Bool, true, List, [], ◌∷◌, ap, ◌∙◌, sym, subst, Option, Some, None, get, insert, remove, FileGrammar, OpenDocument, Doc, open_document, Answer, log_message, CloseNotOpen, Entry, Phase, IsPublished, TextChange, DocumentState, Held, is_open, is_lost, Becomes, entry_view, State, Changes, Closes, Holds, Opens, inserted_again, inserted_removed}
+use Rattle.server.proofs.Std.{◌≡◌, ℕ, ℤ, Bool, true, List, [], ◌∷◌, ap, ◌∙◌, sym, subst, Option, Some, None, get, insert, remove}
+use Rattle.server.proofs.Common.{FileGrammar, OpenDocument, Doc, open_document, Answer, log_message, CloseNotOpen, Entry, Phase, IsPublished, TextChange, DocumentState, Held, is_open, is_lost, Becomes, entry_view, State, Changes, Closes, Holds, Opens, inserted_again, inserted_removed}
 use Rattle.server.specs.declared.entry.Entry.TheVariants as entry
 
 abbrev pub state_of : FileGrammar → Phase → Held → State

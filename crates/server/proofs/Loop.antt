@@ -1,5 +1,7 @@
 -- What the loop of a session keeps, and what it leaves.
-use Rattle.server.proofs.Common.{◌≡◌, ◌≢◌, ℕ, List, [], ◌++◌, refl, ap, sym, subst, inl, inr, ◌∙◌, append_assoc, Option, Some, None, Result, Ok, Err, Consumes, Keeps, IsAtEnd, FrameFault, Tail, Open, Faulty, Splits, IsOpen, GoesOn, fault_of, finish_of, FileGrammar, AlwaysAnswers, RunFault, Frame, Read, Write, State, first_state, Session, Ends, Served, ServedInPart, CanServe, IsCutShort, EndsAt, IsWritten, bytes_of, run_fault, run_serves, first_serves}
+use Rattle.server.proofs.Std.{◌≡◌, ◌≢◌, ℕ, List, [], ◌++◌, refl, ap, sym, subst, inl, inr, ◌∙◌, append_assoc, Option, Some, None, Result, Ok, Err, Consumes, Keeps, IsAtEnd}
+use Rattle.server.proofs.Common.{FrameFault, Tail, Open, Faulty, Splits, IsOpen, GoesOn, fault_of, finish_of, FileGrammar, AlwaysAnswers, RunFault, Frame, Read, Write, State, first_state, Session, Ends, CanServe, IsWritten, bytes_of, run_serves, first_serves}
+use Rattle.server.proofs.Common.{Served, ServedInPart, IsCutShort, EndsAt, run_fault}
 use Rattle.std.proofs.Common.{append-nil}
 use Rattle.frames.specs.declared.fault.FrameFault.TheVariants as frame
 use Rattle.sessions.specs.declared.fault.RunFault.TheVariants.{Memory}

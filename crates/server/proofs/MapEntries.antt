@@ -1,5 +1,9 @@
 -- What the entries of a map of documents say of the documents that are held.
-use Rattle.server.proofs.Common.{◌≡◌, ℕ, ◌+◌, Bool, true, false, cond, List, [], ◌∷◌, map, length, refl, sym, ap, subst, ◌∙◌, arith, Option, Some, None, is_some, option_map, IfSome, string_bytes, String, string_cmp, AllByRecursion, bytes_eq, nat_cmp, is_eq, eq_by_cmp, eq_by_cmp_equiv, slice_cmp, Ordering, Less, get, insert, remove, len, contains_key, find, get-from_entries, get-insert, get-remove, len-empty, len-insert, same_map, slice_cmp-IsAntisymmetric, nat_cmp-IsAntisymmetric, nat_list_cmp_total, is_eq-slice_cmp, DocumentState, LanguageData, Entry, entry_view, documents_of, entry_at, IsEntryOf, AreCurrent, IsStrictlySortedBy}
+use Rattle.server.proofs.Std.{◌≡◌, ◌+◌, [], ◌∷◌, ◌∙◌}
+use Rattle.server.proofs.Std.{ℕ, Bool, true, false, cond, List, map, length, Option, Some, None, is_some, option_map, IfSome, string_bytes, String, string_cmp, refl, sym, ap, subst, AllByRecursion, bytes_eq, nat_cmp, is_eq, eq_by_cmp, eq_by_cmp_equiv, slice_cmp, Ordering, Less}
+use Rattle.server.proofs.Std.{get, insert, remove, len, contains_key, find, get-from_entries, get-insert, get-remove, len-empty, len-insert, same_map, slice_cmp-IsAntisymmetric, nat_cmp-IsAntisymmetric, IsStrictlySortedBy}
+use Rattle.server.proofs.Std.{arith, nat_list_cmp_total, is_eq-slice_cmp}
+use Rattle.server.proofs.Common.{DocumentState, LanguageData, Entry, entry_view, documents_of, entry_at, IsEntryOf, AreCurrent}
 
 map_cond : {A B : Type 0} (f : A → B) (b : Bool) (x : A) (o : Option A) → option_map f (cond b (Some x) o) ≡ cond b (Some (f x)) (option_map f o)
 map_cond f true x o = refl

@@ -1,5 +1,6 @@
 -- How a document is lost by a change that is refused.
-use Rattle.server.proofs.Common.{◌≡◌, Result, Err, DocFault, Loss, TooLarge, loss_of}
+use Rattle.server.proofs.Std.{◌≡◌, Result, Err}
+use Rattle.server.proofs.Common.{DocFault, Loss, TooLarge, loss_of}
 use Rattle.docs.specs.declared.doc.DocFault.TheVariants as fault
 use Rattle.rpc.specs.Loss.TheVariants.{Memory}
 

@@ -1,5 +1,6 @@
 -- Runs one after another.
-use Rattle.server.proofs.Common.{◌≡◌, ℕ, List, [], ◌∷◌, ◌++◌, refl, ap, sym, subst, ◌∙◌, append_assoc, Option, Some, None, MatchOption, IfSome, Appends, flat_map-append, map-append, compact_text, frame, contents, Received, received_in, Answer, reply_data, State, Step, StepOn, Run, bytes_of, Served, CanServe, run_serves, some_run}
+use Rattle.server.proofs.Std.{◌≡◌, ℕ, List, [], ◌∷◌, ◌++◌, refl, ap, sym, subst, ◌∙◌, append_assoc, Option, Some, None, MatchOption, IfSome, Appends, flat_map-append, map-append}
+use Rattle.server.proofs.Common.{compact_text, frame, contents, Received, received_in, Answer, reply_data, State, Step, StepOn, Run, bytes_of, Served, CanServe, run_serves, some_run}
 use Rattle.std.proofs.Common.{append-nil}
 use Rattle.server.proofs.Bytes.{appends_nothing, appends_then}
 

@@ -1,5 +1,5 @@
 -- What says whether a call was refused.
-use Rattle.server.proofs.Common.{◌≡◌, Bool, true, false, Result, Ok, Err, OnOk, OnErr, is_err}
+use Rattle.server.proofs.Std.{◌≡◌, Bool, true, false, Result, Ok, Err, OnOk, OnErr, is_err}
 
 -- it is `true` where the call was refused, and `false` where it wasn't
 pub shows_refused : {A E : Type 0} {flag : Bool} (r : Result A E) → flag ≡ is_err r → OnErr r (flag ≡ true)

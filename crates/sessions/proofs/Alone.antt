@@ -1,5 +1,10 @@
 -- What is sent about a document depends on that document alone.
-use Rattle.sessions.proofs.Common.{◌≡◌, ◌≢◌, ℕ, ℤ, Bool, true, false, List, [], ◌∷◌, map, refl, sym, ap, subst, ◌∙◌, Option, Some, None, All, chars, get, All-from_recursion, Encoding, changed, AnswersOnce, CountsOnce, LastEdit, OpenDocument, FileGrammar, Ident, Request, about, stats, Question, Notification, open_text, change_text, close, malformed, unfit_change, request, notification, Received, accepted, TextChange, Answer, published_diagnostics, log_message, stats_reply, Lost, TooLarge, MalformedChange, Memory, named, AreAlikeFor, loses, loses_memory, SameFor, EachDocumentIsAlone, IsAnswer, IsCount, IsPublished, but_nodes, DocumentState, is_open, is_lost, Becomes, IsLastAfter, has_room, Publishes, State, OnRequest, Changes, Closes, Forgets, Holds, Ignores, Opens, Replies, Spoils, Step, OnNotification, new_document, Phase, Ready}
+use Rattle.sessions.proofs.Std.{◌≡◌, ◌≢◌, ℕ, ℤ, Bool, true, false, List, [], ◌∷◌, map, refl, sym, ap, subst, ◌∙◌, Option, Some, None, All, chars, get, All-from_recursion}
+use Rattle.sessions.proofs.Common.{Encoding, Ident, Request, about, stats, Question, Notification, open_text, change_text, close, malformed, unfit_change, request, notification, Received, accepted, TextChange, Answer, published_diagnostics, log_message, stats_reply, Lost}
+use Rattle.sessions.proofs.Common.{TooLarge, MalformedChange, Memory}
+use Rattle.sessions.proofs.Common.{changed, AnswersOnce, CountsOnce, LastEdit, OpenDocument, FileGrammar}
+use Rattle.sessions.proofs.Common.{named, AreAlikeFor, loses, loses_memory, SameFor, EachDocumentIsAlone, IsAnswer, IsCount, IsPublished, but_nodes, DocumentState, is_open, is_lost, Becomes, IsLastAfter, has_room, Publishes}
+use Rattle.sessions.proofs.Common.{State, OnRequest, Changes, Closes, Forgets, Holds, Ignores, Opens, Replies, Spoils, Step, OnNotification, new_document, Phase, Ready}
 use Rattle.sessions.proofs.Effects.{Effect, stays, stands, goes, step_effect}
 use Rattle.sessions.proofs.Fresh.{one_answer, one_published}
 use Rattle.sessions.proofs.LookUps.{get_inserted, get_other, get_removed, get_other_removed}

@@ -1,17 +1,4 @@
--- What the proofs of this crate cite of definitions, of types and of other crates, passed on from one place. Declares nothing.
-pub use Rattle.std.proofs.Common.{All, Bool, Decides, IsUtf8, List, MatchOption, None, Option, Some, [], ap, append_assoc, arith, cond, drop, encode_utf8_all, false, get_or, if◌then◌else◌, inl, inr, is_some, length, ltb-true, map, min, nat_lt, option_map, pos, refl, subst, sym, take, true, ℕ, ℤ, ⊎_elim, ◌++◌, ◌+◌, ◌<◌, ◌||◌, ◌↔◌, ◌∙◌, ◌∷◌, ◌≡◌, ◌≢◌, ◌⊎◌}
-pub use Rattle.std.specs.Cmp.{eq_by_cmp_equiv}
-pub use Rattle.std.specs.Cmp.Lexicographic.{slice_cmp}
-pub use Rattle.std.specs.FinMap.{contains_key, empty, get, get-empty, get-insert, get-remove, insert, len, len-empty, nat_cmp-IsAntisymmetric, remove, same_map, slice_cmp-IsAntisymmetric}
-pub use Rattle.std.specs.Ordering.{eq_by_cmp, is_eq, nat_cmp}
-pub use Rattle.std.specs.Str.{chars}
-pub use Rattle.std.specs.declared.cmp.Ordering.{Ordering}
-pub use Rattle.std.specs.declared.cmp.Ordering.TheVariants.{Equal, Greater, Less}
-pub use Rattle.std.proofs.Math.Nat.{min-eq_left}
-pub use Rattle.std.proofs.lemmas.Bool.{cases_eq, ltb-false}
-pub use Rattle.std.proofs.lemmas.Cmp.{nat_list_cmp_total}
-pub use Rattle.std.proofs.lemmas.List.{drop_more, length-drop, map-append, take-append-drop, take_more}
-pub use Rattle.std.proofs.lemmas.List.Elements.{All-append, All-from_recursion, All-head, All-tail}
+-- What the proofs of this crate cite of definitions, of types and of the repository's crates, passed on from one place. Declares nothing.
 pub use Rattle.readings.proofs.Texts.{fits_from, large_from, spelled_again, spelled_large, too_long}
 pub use Rattle.readings.specs.Answers.{AlwaysAnswers, AnswersOnce, AreSelections, IsReading, Reading, rows, written_tree}
 pub use Rattle.readings.specs.Contents.{AreFoldsOf}
@@ -25,7 +12,9 @@ pub use Rattle.rpc.specs.Ids.{Ident, numbered}
 pub use Rattle.rpc.specs.Log.TheVariants.{Lost}
 pub use Rattle.rpc.specs.Loss.{Loss}
 pub use Rattle.rpc.specs.Loss.TheVariants.{MalformedChange, Memory, TooLarge}
-pub use Rattle.rpc.specs.Messages.{Notification, Question, Received, Request, TextChange, Unfit, about, accepted, change_text, change_view, close, exit, ignored, initialize, initialized, invalid, its_folds, its_selections, its_text, its_tokens, its_tree, malformed, notification, open_text, params, refused, request, shutdown, stats, unfit_change, unfit_close, unfit_open, unknown, unread}
+pub use Rattle.rpc.specs.Messages.{Notification, Question, Received, Request, TextChange, Unfit}
+pub use Rattle.rpc.specs.Messages.{about, accepted, change_text, change_view, close, exit, ignored, initialize, initialized, invalid, its_folds, its_selections, its_text, its_tokens, its_tree, malformed, notification, open_text, params, refused, request, shutdown, stats, unfit_change, unfit_close}
+pub use Rattle.rpc.specs.Messages.{unfit_open, unknown, unread}
 pub use Rattle.rpc.specs.Range.{Range}
 pub use Rattle.rpc.specs.Reading.{Receives, is_text, received_in}
 pub use Rattle.rpc.specs.Replies.{Answer, folds_reply, log_message, published_diagnostics, selections_reply, stats_reply, tokens_reply}
@@ -46,5 +35,3 @@ pub use Rattle.definitions.proofs.Characters.{IsText-chars, IsText-edit}
 pub use Rattle.rpc.specs.Texts.{IsSpelled, texts_of}
 pub use Rattle.sessions.specs.Replies.{EachRequestIsAnswered, NoNotificationIsAnswered, NothingIsSentAfterExit, all_due, all_replied, before_exit, due, has_exit, is_exit, replied}
 pub use Rattle.sessions.specs.Sizes.{TooLargeIsExact, is_large, outgrows}
-pub use Rattle.std.proofs.lemmas.Grind.{flat_map-append}
-pub use Rattle.std.proofs.lemmas.Slice.Eq.{bytes_eq-Decides}

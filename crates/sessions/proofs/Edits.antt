@@ -1,5 +1,6 @@
 -- A text that is edited by changes in turn.
-use Rattle.sessions.proofs.Common.{◌≡◌, ◌<◌, ◌+◌, ℕ, ℤ, Bool, true, false, cond, List, [], ◌∷◌, ◌++◌, length, map, take, drop, get_or, refl, sym, ap, subst, ◌∙◌, Option, Some, None, drop_more, take_more, map-append, take-append-drop, chars, changed, Encoding, IsNext, LastEdit, OpenDocument, fits, FileGrammar, TextChange, change_view, Change, TooLarge, Memory, DocumentState, is_open, is_lost, edited, Becomes, IsLastAfter}
+use Rattle.sessions.proofs.Std.{◌≡◌, ◌<◌, ◌+◌, ℕ, ℤ, Bool, true, false, cond, List, [], ◌∷◌, ◌++◌, length, map, take, drop, get_or, refl, sym, ap, subst, ◌∙◌, Option, Some, None, drop_more, take_more, map-append, take-append-drop, chars}
+use Rattle.sessions.proofs.Common.{changed, Encoding, IsNext, LastEdit, OpenDocument, fits, FileGrammar, TextChange, change_view, Change, TooLarge, Memory, DocumentState, is_open, is_lost, edited, Becomes, IsLastAfter}
 
 module _ (encoding : Encoding) where
   -- the text after one change

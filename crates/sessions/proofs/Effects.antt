@@ -1,5 +1,10 @@
 -- What a step does to the documents: nothing, or one of them stands otherwise, or is forgotten.
-use Rattle.sessions.proofs.Common.{◌≡◌, ℕ, ℤ, Bool, true, false, cond, List, [], ◌∷◌, refl, sym, ap, subst, ◌∙◌, Option, Some, None, All, chars, get, All-from_recursion, Encoding, OpenDocument, fits, FileGrammar, Ident, Request, initialize, shutdown, about, stats, Question, its_tokens, its_tree, Notification, initialized, open_text, change_text, close, malformed, Unfit, unfit_change, request, notification, ignored, Received, accepted, TextChange, Answer, TooLarge, MalformedChange, Phase, New, Ready, Down, named, IsAnswer, IsCount, tree_answer, DocumentState, is_open, is_lost, Becomes, Held, has_room, Publishes, AllFit, State, OnRequest, Changes, Closes, Forgets, Holds, OnMalformed, Opens, Replies, Spoils, Step, OnNotification, new_document, its_text, refused, invalid}
+use Rattle.sessions.proofs.Std.{◌≡◌, ℕ, ℤ, Bool, true, false, cond, List, [], ◌∷◌, refl, sym, ap, subst, ◌∙◌, Option, Some, None, All, chars, get, All-from_recursion}
+use Rattle.sessions.proofs.Common.{Encoding, Ident}
+use Rattle.sessions.proofs.Common.{Request, initialize, shutdown, about, stats, Question, its_tokens, its_tree, Notification, initialized, open_text, change_text, close, malformed, Unfit, unfit_change, request, notification, ignored, Received, accepted, TextChange, its_text, refused, invalid}
+use Rattle.sessions.proofs.Common.{Answer, TooLarge, MalformedChange}
+use Rattle.sessions.proofs.Common.{OpenDocument, fits, FileGrammar}
+use Rattle.sessions.proofs.Common.{Phase, New, Ready, Down, named, IsAnswer, IsCount, tree_answer, DocumentState, is_open, is_lost, Becomes, Held, has_room, Publishes, AllFit, State, OnRequest, Changes, Closes, Forgets, Holds, OnMalformed, Opens, Replies, Spoils, Step, OnNotification, new_document}
 use Rattle.sessions.proofs.Edits.{IsFit, becomes_fit}
 
 -- no answer publishes anything of any document

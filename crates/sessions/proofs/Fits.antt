@@ -1,5 +1,6 @@
 -- A session keeps its file, the texts of its open documents fit, and their unit is that of its phase.
-use Rattle.sessions.proofs.Common.{◌≡◌, ℕ, Bool, true, false, cond, List, [], ◌∷◌, ◌++◌, sym, ap, subst, ◌∙◌, Option, Some, None, MatchOption, nat_cmp, eq_by_cmp, slice_cmp, empty, get, insert, remove, get-empty, get-insert, get-remove, nat_list_cmp_total, AlwaysAnswers, OpenDocument, fits, FileGrammar, Received, received_in, Answer, DocumentState, is_open, is_lost, Held, Run, AllFit, CanServe, State, first_state, Step, New}
+use Rattle.sessions.proofs.Std.{◌≡◌, ℕ, Bool, true, false, cond, List, [], ◌∷◌, ◌++◌, sym, ap, subst, ◌∙◌, Option, Some, None, MatchOption, nat_cmp, eq_by_cmp, slice_cmp, empty, get, insert, remove, get-empty, get-insert, get-remove, nat_list_cmp_total}
+use Rattle.sessions.proofs.Common.{AlwaysAnswers, OpenDocument, fits, FileGrammar, Received, received_in, Answer, DocumentState, is_open, is_lost, Held, Run, AllFit, CanServe, State, first_state, Step, New}
 use Rattle.sessions.proofs.Effects.{AreOfPhase, IsOfPhase, Effect, stays, stands, goes, step_effect}
 
 pub none_fits : AllFit empty

@@ -1,5 +1,12 @@
 -- Every answer is a fresh server's, and so are the diagnostics that were published last.
-use Rattle.sessions.proofs.Common.{◌≡◌, ◌≢◌, ◌⊎◌, inl, inr, ⊎_elim, ℕ, ℤ, true, cond, List, [], ◌∷◌, ◌++◌, refl, sym, ap, subst, ◌∙◌, append_assoc, Option, Some, None, All, ◌||◌, nat_lt, is_some, option_map, pos, encode_utf8_all, MatchOption, chars, nat_cmp, slice_cmp, empty, get, insert, remove, len, get-empty, len-empty, All-append, All-from_recursion, Encoding, Reading, AlwaysAnswers, AnswersOnce, AreSelections, rows, written_tree, LastEdit, OpenDocument, fits, spelled_again, FileGrammar, Ident, numbered, Question, its_text, its_tokens, its_tree, its_folds, its_selections, about, open_text, change_text, request, notification, Received, accepted, TextChange, received_in, Answer, tokens_reply, folds_reply, selections_reply, published_diagnostics, log_message, Lost, TooLarge, MalformedChange, Memory, AreFoldsOf, IsDiagnosis, Phase, Ready, DocumentState, is_open, is_lost, Held, Becomes, edited, has_room, IsAnswer, IsAnswerOf, IsPublished, shown, tree_answer, State, first_state, OnRequest, Changes, Holds, Opens, Step, OnNotification, new_document, Run, IsFresh, RepliesOnly, AnswerAlike, Publishes, IsLastPublished, EveryAnswerIsFresh, EachTextIsItsEdits}
+use Rattle.sessions.proofs.Std.{◌≡◌, ◌≢◌, ◌⊎◌, [], ◌∷◌, ◌++◌, ◌∙◌, ◌||◌}
+use Rattle.sessions.proofs.Std.{inl, inr, ⊎_elim, ℕ, ℤ, true, cond, List, refl, sym, ap, subst, Option, Some, None, All, nat_lt, is_some, option_map, pos, encode_utf8_all, MatchOption, chars, nat_cmp, slice_cmp, empty, get, insert, remove, len, get-empty, len-empty}
+use Rattle.sessions.proofs.Std.{append_assoc, All-append, All-from_recursion}
+use Rattle.sessions.proofs.Common.{Encoding, Ident, numbered, Question, its_text, its_tokens, its_tree, its_folds, its_selections, about, open_text, change_text, request, notification, Received, accepted, TextChange, received_in}
+use Rattle.sessions.proofs.Common.{Answer, tokens_reply, folds_reply, selections_reply, published_diagnostics, log_message, Lost, TooLarge, MalformedChange, Memory}
+use Rattle.sessions.proofs.Common.{Reading, AlwaysAnswers, AnswersOnce, AreSelections, rows, written_tree, LastEdit, OpenDocument, fits, spelled_again, FileGrammar, AreFoldsOf, IsDiagnosis}
+use Rattle.sessions.proofs.Common.{Phase, Ready, DocumentState, is_open, is_lost, Held, Becomes, edited, has_room, IsAnswer, IsAnswerOf, IsPublished, shown, tree_answer, State, first_state, OnRequest, Changes, Holds, Opens, Step, OnNotification, new_document, Run}
+use Rattle.sessions.proofs.Common.{IsFresh, RepliesOnly, AnswerAlike, Publishes, IsLastPublished, EveryAnswerIsFresh, EachTextIsItsEdits}
 use Rattle.sessions.proofs.Effects.{AreQuiet, none_quiet, IsOfPhase, Effect, stays, stands, goes, step_effect}
 use Rattle.sessions.proofs.Fits.{Keeps, step_keeps, run_keeps, run_serves, first_serves, none_stand}
 use Rattle.sessions.proofs.LookUps.{get_inserted, get_other, get_removed, get_other_removed, same_or_not}

@@ -1,5 +1,6 @@
 -- Each run has a history of each document, and two sessions that receive the same about a document send the same of it.
-use Rattle.sessions.proofs.Common.{◌≡◌, ◌≢◌, ◌⊎◌, inl, inr, ⊎_elim, ℕ, List, [], ◌∷◌, ◌++◌, map, refl, sym, ap, subst, ◌∙◌, Option, Some, None, MatchOption, cases_eq, map-append, get, FileGrammar, Received, received_in, Answer, but_nodes, named, AreAlikeFor, SameFor, SendTheSame, EachDocumentIsAlone, EachRunHasAHistory, Event, event_in, Notes, History, HistoriesDecide, Run, State, first_state, Step}
+use Rattle.sessions.proofs.Std.{◌≡◌, ◌≢◌, ◌⊎◌, inl, inr, ⊎_elim, ℕ, List, [], ◌∷◌, ◌++◌, map, refl, sym, ap, subst, ◌∙◌, Option, Some, None, MatchOption, cases_eq, map-append, get}
+use Rattle.sessions.proofs.Common.{FileGrammar, Received, received_in, Answer, but_nodes, named, AreAlikeFor, SameFor, SendTheSame, EachDocumentIsAlone, EachRunHasAHistory, Event, event_in, Notes, History, HistoriesDecide, Run, State, first_state, Step}
 use Rattle.sessions.proofs.Fits.{step_keeps}
 
 -- ---- each run has a history

@@ -1,5 +1,10 @@
 -- What is sent about a document stays the same where the messages about other documents are left out.
-use Rattle.sessions.proofs.Common.{All, All-head, All-tail, Answer, Bool, Decides, DocumentState, Event, FileGrammar, HistoriesDecide, History, List, MatchOption, None, Notes, Option, OthersCanBeLeftOut, Phase, Received, Some, State, Step, [], about, accepted, ap, bytes_eq-Decides, change_text, close, concerning, concerns, cond, contains_key, due, empty, event_in, exit, exit_status, false, finds_room, first_state, get, get-empty, has_room, if◌then◌else◌, ignored, initialize, initialized, inl, inr, is_exit, is_lifecycle, is_text, len-empty, loses_memory, malformed, map, named, nat_cmp, nat_cmp-IsAntisymmetric, nat_list_cmp_total, nat_lt, notification, open_text, received_in, refl, refused, request, same_map, shutdown, slice_cmp, slice_cmp-IsAntisymmetric, stats, subst, sym, true, unread, ℕ, ⊎_elim, ◌++◌, ◌||◌, ◌∙◌, ◌∷◌, ◌≡◌, ◌≢◌}
+use Rattle.sessions.proofs.Std.{All, Bool, Decides, List, MatchOption, None, Option, Some, cond, false, if◌then◌else◌, map, nat_lt, true, ℕ, ap, refl, subst, sym, contains_key, empty, get, get-empty, len-empty, nat_cmp-IsAntisymmetric, same_map, slice_cmp-IsAntisymmetric, inl, inr, ⊎_elim, nat_cmp}
+use Rattle.sessions.proofs.Std.{slice_cmp}
+use Rattle.sessions.proofs.Std.{[], ◌++◌, ◌||◌, ◌∙◌, ◌∷◌, ◌≡◌, ◌≢◌}
+use Rattle.sessions.proofs.Std.{All-head, All-tail, bytes_eq-Decides, nat_list_cmp_total}
+use Rattle.sessions.proofs.Common.{Answer, FileGrammar, Received, about, accepted, change_text, close, exit, ignored, initialize, initialized, is_text, malformed, notification, open_text, received_in, refused, request, shutdown, stats, unread}
+use Rattle.sessions.proofs.Common.{DocumentState, Event, HistoriesDecide, History, Notes, OthersCanBeLeftOut, Phase, State, Step, concerning, concerns, due, event_in, exit_status, finds_room, first_state, has_room, is_exit, is_lifecycle, loses_memory, named}
 use Rattle.sessions.proofs.Alone.{step_leaves}
 use Rattle.sessions.proofs.LookUps.{same_or_not}
 use Rattle.sessions.proofs.Replied.{Goes, halts, next_phase, step_goes}

@@ -1,4 +1,5 @@
 pub mod Common
+pub mod Std
 pub mod LookUps
 pub mod Edits
 pub mod UncountedChanges

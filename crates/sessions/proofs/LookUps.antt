@@ -1,5 +1,9 @@
 -- What a look-up finds after a document was inserted or removed.
-use Rattle.sessions.proofs.Common.{◌≡◌, ◌≢◌, ◌⊎◌, inl, inr, ℕ, true, false, cond, List, sym, ap, ◌∙◌, refl, Bool, Option, Some, None, is_some, nat_cmp, is_eq, eq_by_cmp, Ordering, Less, Equal, Greater, eq_by_cmp_equiv, slice_cmp, get, insert, remove, get-insert, get-remove, same_map, slice_cmp-IsAntisymmetric, nat_cmp-IsAntisymmetric, nat_list_cmp_total, DocumentState, Held}
+use Rattle.sessions.proofs.Std.{◌≡◌, ◌≢◌, ◌⊎◌, ◌∙◌}
+use Rattle.sessions.proofs.Std.{inl, inr, ℕ, true, false, cond, List, Bool, Option, Some, None, is_some, sym, ap, refl, nat_cmp, is_eq, eq_by_cmp, Ordering, Less, Equal, Greater, eq_by_cmp_equiv, slice_cmp}
+use Rattle.sessions.proofs.Std.{get, insert, remove, get-insert, get-remove, same_map, slice_cmp-IsAntisymmetric, nat_cmp-IsAntisymmetric}
+use Rattle.sessions.proofs.Std.{nat_list_cmp_total}
+use Rattle.sessions.proofs.Common.{DocumentState, Held}
 
 same_uri : (uri : List ℕ) → eq_by_cmp (slice_cmp nat_cmp) uri uri ≡ true
 same_uri uri = (eq_by_cmp_equiv nat_list_cmp_total).refl uri

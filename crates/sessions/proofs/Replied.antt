@@ -1,5 +1,11 @@
 -- What a step leaves of replies, of the phase, and of whether the session stops, and what a run then leaves.
-use Rattle.sessions.proofs.Common.{Answer, Bool, Changes, Closes, DocumentState, Down, EachRequestIsAnswered, Encoding, Enters, FileGrammar, Forgets, Holds, Ident, Ignores, IsAnswer, IsCount, List, MalformedChange, MatchOption, New, NoNotificationIsAnswered, None, NothingIsSentAfterExit, Notification, OnMalformed, OnNotification, OnRequest, Opens, Option, Phase, Question, Ready, Received, Replies, Request, Run, Some, Spoils, State, Step, TextChange, Unfit, [], about, accepted, all_due, all_replied, ap, before_exit, change_text, chars, close, due, exit, exit_status, false, flat_map-append, get, has_exit, has_room, if◌then◌else◌, ignored, initialize, initialized, invalid, is_exit, is_lost, is_open, its_folds, its_selections, its_text, its_tokens, its_tree, malformed, new_document, notification, open_text, params, received_in, refl, refused, replied, request, shutdown, stats, subst, sym, tree_answer, true, unfit_change, unfit_close, unfit_open, unknown, unread, ℕ, ℤ, ◌++◌, ◌||◌, ◌∙◌, ◌∷◌, ◌≡◌}
+use Rattle.sessions.proofs.Std.{Bool, List, MatchOption, None, Option, Some, [], ap, chars, false, flat_map-append, get, if◌then◌else◌, refl, subst, sym, true, ℕ, ℤ, ◌++◌, ◌||◌, ◌∙◌, ◌∷◌, ◌≡◌}
+use Rattle.sessions.proofs.Common.{Answer, Encoding, Ident, MalformedChange, Notification, Question, Received, Request, TextChange, Unfit}
+use Rattle.sessions.proofs.Common.{about, accepted, change_text, close, exit, ignored, initialize, initialized, invalid, its_folds, its_selections, its_text, its_tokens, its_tree, malformed, notification, open_text, params, refused, request, shutdown, stats, unfit_change, unfit_close, unfit_open}
+use Rattle.sessions.proofs.Common.{unknown, unread, received_in}
+use Rattle.sessions.proofs.Common.{FileGrammar}
+use Rattle.sessions.proofs.Common.{Changes, Closes, Enters, Forgets, Holds, Ignores, OnMalformed, OnNotification, OnRequest, Opens, Replies, Spoils, State, Step, exit_status, new_document, DocumentState, has_room, is_lost, is_open, Down, New, Ready}
+use Rattle.sessions.proofs.Common.{EachRequestIsAnswered, NoNotificationIsAnswered, NothingIsSentAfterExit, all_due, all_replied, before_exit, due, has_exit, is_exit, replied, IsAnswer, IsCount, tree_answer, Phase, Run}
 
 -- the phase after `initialize` and after `shutdown`
 abbrev initialized_in : Encoding → Phase → Phase

@@ -1,5 +1,8 @@
 -- A document is lost as too large exactly where a text has too many bytes.
-use Rattle.sessions.proofs.Common.{All, All-head, All-tail, Answer, Becomes, Bool, Changes, DocumentState, Encoding, FileGrammar, Holds, IsSpelled, IsText-chars, IsText-edit, IsUtf8, List, MalformedChange, Memory, None, OnNotification, OpenDocument, Opens, Option, Phase, Range, Received, Receives, Some, State, Step, TextChange, TooLarge, TooLargeIsExact, [], accepted, ap, arith, change_text, chars, edited, encode_utf8_all, false, first_state, fits, fits_from, get, has_room, if◌then◌else◌, inl, inr, is_large, is_lost, is_open, large_from, length, ltb-false, ltb-true, map, new_document, notification, open_text, outgrows, refl, spelled_large, subst, sym, texts_of, too_long, true, ℕ, ℤ, ◌<◌, ◌||◌, ◌↔◌, ◌∙◌, ◌∷◌, ◌≡◌, ◌⊎◌}
+use Rattle.sessions.proofs.Std.{All, All-head, All-tail, Bool, IsUtf8, List, None, Option, Some, [], ap, arith, chars, encode_utf8_all, false, get, if◌then◌else◌, inl, inr, length, ltb-false, ltb-true, map, refl, subst, sym, true, ℕ, ℤ, ◌<◌, ◌||◌, ◌↔◌, ◌∙◌, ◌∷◌, ◌≡◌, ◌⊎◌}
+use Rattle.sessions.proofs.Common.{Answer, Encoding, FileGrammar, IsSpelled, MalformedChange, Memory, OpenDocument, Range, Received, Receives, TextChange, TooLarge, accepted, change_text, fits, fits_from, large_from, notification, open_text, spelled_large, texts_of, too_long}
+use Rattle.sessions.proofs.Common.{Becomes, Changes, DocumentState, Holds, OnNotification, Opens, Phase, State, Step, TooLargeIsExact, edited, first_state, has_room, is_large, is_lost, is_open, new_document, outgrows}
+use Rattle.sessions.proofs.Common.{IsText-chars, IsText-edit}
 use Rattle.readings.proofs.Texts.{is_text}
 use Rattle.definitions.specs.Text.{IsText, changed, span}
 use Rattle.sessions.proofs.Edits.{after, edited_fitting, edited_never}

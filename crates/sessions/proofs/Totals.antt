@@ -1,5 +1,9 @@
 -- Each message makes some step, and each list of contents some run.
-use Rattle.sessions.proofs.Common.{◌≡◌, ℕ, ℤ, true, false, Bool, List, [], ◌∷◌, ◌++◌, length, refl, sym, subst, arith, Option, Some, None, option_map, chars, get, Stats, all_branches, AlwaysAnswers, Reading, IsReading, AreStats, ReportsLast, LastEdit, OpenDocument, fits, FileGrammar, Ident, Request, Question, its_text, its_folds, its_selections, shutdown, about, stats, Notification, initialized, open_text, change_text, close, malformed, Unfit, unfit_change, request, notification, Received, accepted, TextChange, received_in, Answer, folds_reply, selections_reply, published_diagnostics, MalformedChange, IsAnswer, IsAnswerOf, IsCount, IsPublished, shown, Phase, Ready, DocumentState, is_open, is_lost, has_room, State, OnRequest, Changes, Closes, Holds, OnMalformed, Opens, Spoils, OnNotification, Step, new_document, Run, CanServe, refused, invalid}
+use Rattle.sessions.proofs.Std.{◌≡◌, ℕ, ℤ, true, false, Bool, List, [], ◌∷◌, ◌++◌, length, refl, sym, subst, arith, Option, Some, None, option_map, chars, get}
+use Rattle.sessions.proofs.Common.{Stats, Ident, Request, Question, its_text, its_folds, its_selections, shutdown, about, stats, Notification, initialized, open_text, change_text, close, malformed, Unfit, unfit_change, request, notification, Received, accepted, TextChange, refused, invalid}
+use Rattle.sessions.proofs.Common.{received_in, Answer, folds_reply, selections_reply, published_diagnostics, MalformedChange}
+use Rattle.sessions.proofs.Common.{all_branches, AlwaysAnswers, Reading, IsReading, AreStats, ReportsLast, LastEdit, OpenDocument, fits, FileGrammar}
+use Rattle.sessions.proofs.Common.{IsAnswer, IsAnswerOf, IsCount, IsPublished, shown, Phase, Ready, DocumentState, is_open, is_lost, has_room, State, OnRequest, Changes, Closes, Holds, OnMalformed, Opens, Spoils, OnNotification, Step, new_document, Run, CanServe}
 use Rattle.sessions.proofs.Edits.{IsFit, becomes_fit, some_becomes}
 use Rattle.sessions.proofs.Effects.{opened_fit}
 use Rattle.sessions.proofs.Fits.{step_serves}

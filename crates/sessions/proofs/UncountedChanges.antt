@@ -1,5 +1,7 @@
 -- What a document is after changes of whose counts none are reported, and what it becomes by those after them.
-use Rattle.sessions.proofs.Common.{◌≡◌, ◌<◌, ◌+◌, ℕ, ℤ, Bool, true, false, cond, List, [], ◌∷◌, ◌++◌, length, map, take, drop, min, refl, sym, ap, subst, ◌∙◌, inl, inr, arith, Option, Some, None, append_assoc, min-eq_left, length-drop, map-append, take-append-drop, chars, Range, IsAbove, IsNext, Makes, edit_of, number_after, number_of, FileGrammar, LastEdit, OpenDocument, fits, TextChange, change_view, Change, Encoding, Loss, TooLarge, MalformedChange, Memory, AreAlikeForNext, IsAfter, DocumentState, is_open, is_lost, edited, Becomes, IsLastAfter}
+use Rattle.sessions.proofs.Std.{◌≡◌, ◌<◌, ◌+◌, ℕ, ℤ, Bool, true, false, cond, List, [], ◌∷◌, ◌++◌, length, map, take, drop, min, refl, sym, ap, subst, ◌∙◌, inl, inr, arith, Option, Some, None, append_assoc, min-eq_left, length-drop, map-append, take-append-drop, chars}
+use Rattle.sessions.proofs.Common.{Range, IsAbove, IsNext, Makes, edit_of, number_after, number_of, FileGrammar, LastEdit, OpenDocument, fits, TextChange, change_view, Change, Encoding, Loss, TooLarge, MalformedChange, Memory}
+use Rattle.sessions.proofs.Common.{AreAlikeForNext, IsAfter, DocumentState, is_open, is_lost, edited, Becomes, IsLastAfter}
 use Rattle.sessions.proofs.Edits.{after, edited_after, edited_fitting}
 
 -- while numbers are left, the next one is above every stamp

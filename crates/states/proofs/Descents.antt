@@ -1,5 +1,6 @@
 -- The way from the root of a tree down to one of its tokens, with the states of what stands before it on the stack.
-use Rattle.states.proofs.Common.{◌++◌, ◌+◌, ◌<◌, ◌≡◌, ◌≤◌, ◌∙◌, ◌∷◌, [], List, ap, append_assoc, append-nil, arith, get_or, length, length-append, refl, subst, sym, take, ℕ, AreStatesAfter, Branch, Forest, Grammar, HasStates, IsStateOf, Kind, Leaf, Nonterminal, Sets, Symbol, Terminal, Tree, roots-append, states_push}
+use Rattle.states.proofs.Std.{◌++◌, ◌+◌, ◌<◌, ◌≡◌, ◌≤◌, ◌∙◌, ◌∷◌, [], List, ap, append_assoc, append-nil, arith, get_or, length, length-append, refl, subst, sym, take, ℕ}
+use Rattle.states.proofs.Common.{AreStatesAfter, Branch, Forest, Grammar, HasStates, IsStateOf, Kind, Leaf, Nonterminal, Sets, Symbol, Terminal, Tree, roots-append, states_push}
 use Rattle.std.proofs.Math.Seq.{take-append-add}
 use Rattle.definitions.specs.Settled.{At, Down, IsSettled, IsSettledIn, Next, This, Way, WayAmong}
 use Rattle.definitions.specs.TreeEdits.{Stamped, StampedBranch, plain, plain_all, plain_trees}

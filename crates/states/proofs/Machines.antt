@@ -1,5 +1,10 @@
 -- What a move of the machine makes of its states.
-use Rattle.states.proofs.Common.{◌++◌, ◌+◌, ◌<◌, ◌≡◌, ◌∙◌, ◌∷◌, ℕ, suc, List, [], Some, ap, append_assoc, arith, drop, get_or, length, length-append, refl, subst, sym, take, take-append-drop, viable_prefix, ◌-◌, HasMove, Move, Accept, Reduce, Shift, IsViable, Branch, Grammar, HasProduction, HaveRoots, Leaf, Tree, forest, trees, Kind, TokenRule, Symbol, Nonterminal, Terminal, run_on, states_push, state_under, states_after, HasStates, IsAccepted, IsStateOf, Sets, length-roots, roots-append, run_join, Handle, accept_stack, handle, roots-forest, roots_unique, after_viable, move_iff_viable, stuck_at_kind, IsStackAfter, Reduced, Reduces, Run, Shifts, Stay, AreStatesAfter, AreStatesOn}
+use Rattle.states.proofs.Std.{◌++◌, ◌+◌, ◌<◌, ◌≡◌, ◌∙◌, ◌∷◌, ℕ, suc, List, [], Some, ap, append_assoc, arith, drop, get_or, length, length-append, refl, subst, sym, take, take-append-drop, ◌-◌}
+use Rattle.states.proofs.Common.{viable_prefix, length-roots, roots-append, run_join, Handle, accept_stack, handle, roots-forest, roots_unique, after_viable, move_iff_viable, stuck_at_kind, IsStackAfter, Reduced, Reduces, Run, Shifts, Stay}
+use Rattle.states.proofs.Common.{run_on, states_push, state_under, states_after, HasStates}
+use Rattle.states.proofs.Common.{IsAccepted, IsStateOf, Sets}
+use Rattle.states.proofs.Common.{AreStatesAfter, AreStatesOn}
+use Rattle.states.proofs.Common.{HasMove, Move, Accept, Reduce, Shift, IsViable, Branch, Grammar, HasProduction, HaveRoots, Leaf, Tree, forest, trees, Kind, TokenRule, Symbol, Nonterminal, Terminal}
 use Rattle.std.proofs.Math.Seq.{drop-cons}
 
 -- before any kind

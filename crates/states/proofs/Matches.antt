@@ -1,5 +1,5 @@
 -- What a test or an option leaves of a fact.
-use Rattle.states.proofs.Common.{◌≡◌, Bool, IfSome, MatchBool, Option, Some, false, subst}
+use Rattle.states.proofs.Std.{◌≡◌, Bool, IfSome, MatchBool, Option, Some, false, subst}
 
 pub of_false : (A B : Type 0) (b : Bool) → b ≡ false → MatchBool b A B → B
 of_false A B b e = subst (λ b. MatchBool b A B) e

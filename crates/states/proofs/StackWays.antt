@@ -1,5 +1,6 @@
 -- Where the trees on a parser's stack stand: in one tree, each with those before it at its left.
-use Rattle.states.proofs.Common.{◌++◌, ◌+◌, ◌<◌, ◌≡◌, ◌≤◌, ◌∙◌, ◌∷◌, [], List, ap, append_assoc, append-nil, arith, head-eq_of_cons-eq, length, length-take, subst, sym, tail-eq_of_cons-eq, take, take-take, ℕ, AreStatesAfter, Forest, Grammar, HaveRoots, Kind, Leaf, Nonterminal, Sets, Symbol, Tree}
+use Rattle.states.proofs.Std.{◌++◌, ◌+◌, ◌<◌, ◌≡◌, ◌≤◌, ◌∙◌, ◌∷◌, [], List, ap, append_assoc, append-nil, arith, head-eq_of_cons-eq, length, length-take, subst, sym, tail-eq_of_cons-eq, take, take-take, ℕ}
+use Rattle.states.proofs.Common.{AreStatesAfter, Forest, Grammar, HaveRoots, Kind, Leaf, Nonterminal, Sets, Symbol, Tree}
 use Rattle.std.proofs.lemmas.List.{take-append-le}
 use Rattle.std.specs.Prelude.{Err, IfOk, IfSome, None, Ok, Option, Result, Some}
 use Rattle.states.specs.Piles.{Standing}

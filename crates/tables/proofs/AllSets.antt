@@ -1,5 +1,8 @@
 -- All sets are among the states: what follows for conflicts and for the number of sets.
-use Rattle.tables.proofs.Common.{◌≡◌, ◌+◌, ◌<◌, ◌≤◌, ℕ, List, [], ◌∷◌, ◌++◌, Option, Some, None, All, length, slice_index_or, refl, sym, ap, ◌∙◌, subst, arith, IfSome, Kind, Token, Symbol, Terminal, first, LrItem, IsValid, HasItem, HaveSameItems, HasNoConflict, CallsFor, HasMove, kind_of, AllProductive, rules_valid, valid_rules, goto_from, all_sets, Item, TableMove, IsMoveAt, AreMoves, kernel_at, IsStep, HasSteps, Shape, IsSound, IsKnown, lookahead_at, IsItem, item_of, HasKernel, start_item, start_kernel, in_known, lookahead_at-rule, lookahead_small, column_there, after_first_known, set_complete, LrMove as Move, LrShift as Shift, Reduce, Accept}
+use Rattle.tables.proofs.Std.{◌≡◌, ◌+◌, ◌<◌, ◌≤◌, ℕ, List, [], ◌∷◌, ◌++◌, Option, Some, None, All, length, slice_index_or, refl, sym, ap, ◌∙◌, subst, arith, IfSome}
+use Rattle.tables.proofs.Common.{Kind, Token, Symbol, Terminal, first, LrItem, IsValid, HasItem, HaveSameItems, HasNoConflict, CallsFor, HasMove, kind_of, AllProductive, LrMove as Move, LrShift as Shift, Reduce, Accept}
+use Rattle.tables.proofs.Common.{rules_valid, valid_rules, goto_from, all_sets, Item, kernel_at, IsStep, Shape, IsSound, IsKnown, lookahead_at, IsItem, item_of, HasKernel, start_item, start_kernel, in_known, lookahead_at-rule, lookahead_small, column_there, after_first_known, set_complete}
+use Rattle.tables.proofs.Common.{TableMove, IsMoveAt, AreMoves, HasSteps}
 
 module _ (g : Shape) (sound : IsSound g) (productive : AllProductive g.grammar) (kernels : List (List Item)) (known : (s : ℕ) → s < length kernels → All (IsItem g) (kernel_at kernels s)) where
   -- some state stands for the prefix

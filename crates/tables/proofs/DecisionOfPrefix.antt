@@ -1,5 +1,6 @@
 -- What a decision on the items of a set says of a prefix.
-use Rattle.tables.proofs.Common.{◌≡◌, ℕ, List, Option, Contains, sym, subst, inl, inr, ⊎_elim, Symbol, Grammar, HasMove, IsConflict, CallsFor, kind_of, Item, lookahead_at, item_of, HasSet, Call, Decided, Moves, Clash, Decision, Nothing, Agreed, Conflict, move_of, IsDecision, IsDecided, LrMove as Move}
+use Rattle.tables.proofs.Std.{◌≡◌, ℕ, List, Option, Contains, sym, subst, inl, inr, ⊎_elim}
+use Rattle.tables.proofs.Common.{Symbol, Grammar, HasMove, IsConflict, CallsFor, kind_of, Item, lookahead_at, item_of, HasSet, Call, Decided, Moves, Clash, Decision, Nothing, Agreed, Conflict, move_of, IsDecision, IsDecided, LrMove as Move}
 
 module _ (g : Grammar) (items : List Item) (prefix : List Symbol) (set : HasSet g items prefix) (look : Option ℕ) where
   pub no_move : IsDecision g items look Nothing → (m : Move) → HasMove g prefix (kind_of look) m → ⊥

@@ -1,5 +1,6 @@
 -- Where it is decided what items call for, each viable list of kinds has a list of the rules that may follow.
-use Rattle.tables.proofs.Common.{◌≡◌, ◌≤◌, ◌<◌, ◌⊎◌, ◌↔◌, ◌+◌, ℕ, zero, suc, Bool, true, false, List, [], ◌∷◌, ◌++◌, refl, sym, subst, inl, inr, ⊎_elim, arith, Some, None, slice_get, Contains, Kind, Token, Symbol, Terminal, Nonterminal, Grammar, Production, Tree, Forest, Leaf, Branch, Nil, Cons, IsTree, AreTrees, yield, yields, IsViable, IsSentence, IsExpected, stack_exists, move_iff_viable, move_iff_sentence, AreMovesDecided, IsAccepted}
+use Rattle.tables.proofs.Std.{◌≡◌, ◌≤◌, ◌<◌, ◌⊎◌, ◌↔◌, ◌+◌, ℕ, zero, suc, Bool, true, false, List, [], ◌∷◌, ◌++◌, refl, sym, subst, inl, inr, ⊎_elim, arith, Some, None, slice_get, Contains}
+use Rattle.tables.proofs.Common.{Kind, Token, Symbol, Terminal, Nonterminal, Grammar, Production, Tree, Forest, Leaf, Branch, Nil, Cons, IsTree, AreTrees, yield, yields, IsViable, IsSentence, IsExpected, stack_exists, move_iff_viable, move_iff_sentence, AreMovesDecided, IsAccepted}
 use Rattle.tables.proofs.NumbersInOrder.{AreThose, none_there, put_first, pass_over}
 use Rattle.tables.proofs.Total.{stack_decided}
 

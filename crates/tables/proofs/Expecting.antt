@@ -1,5 +1,6 @@
 -- The moves of a state are what is expected.
-use Rattle.tables.proofs.Common.{◌≡◌, ◌<◌, ◌≤◌, ◌+◌, ◌↔◌, Bool, true, false, ℕ, suc, List, ◌∷◌, ◌++◌, [], Option, Some, None, length, drop, slice_index_or, refl, sym, ap, ◌∙◌, subst, inl, inr, arith, is_some, if◌then◌else◌, cases_lt, drop_all, get_or-drop, get_or_past, drop-cons, Kind, Token, Symbol, Grammar, Tree, HaveRoots, HasMove, IsSentence, IsViable, IsStackAfter, StackHasMove, move_iff_viable, move_iff_sentence, roots_unique, Move, plain, AreExpected, in_file_order, rules_with_move, IsAction, IsAccepted}
+use Rattle.tables.proofs.Std.{◌≡◌, ◌<◌, ◌≤◌, ◌+◌, ◌↔◌, Bool, true, false, ℕ, suc, List, ◌∷◌, ◌++◌, [], Option, Some, None, length, drop, slice_index_or, refl, sym, ap, ◌∙◌, subst, inl, inr, arith, is_some, if◌then◌else◌, cases_lt, drop_all, get_or-drop, get_or_past, drop-cons}
+use Rattle.tables.proofs.Common.{Kind, Token, Symbol, Grammar, Tree, HaveRoots, HasMove, IsSentence, IsViable, IsStackAfter, StackHasMove, move_iff_viable, move_iff_sentence, roots_unique, Move, plain, AreExpected, in_file_order, rules_with_move, IsAction, IsAccepted}
 use Rattle.tables.proofs.NumbersInOrder.{AreThose, none_there, pass_over, put_first}
 
 -- the rules with a move, from one place of a row on

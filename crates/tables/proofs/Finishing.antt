@@ -1,5 +1,6 @@
 -- The tables of all states.
-use Rattle.tables.proofs.Common.{◌≡◌, ◌<◌, ◌≤◌, ℕ, [], None, MatchOption, length, slice_index_or, sym, ◌∙◌, subst, arith, AllProductive, AreMoves, AreAllMoves, IsClashAt, Made, AreMade, Found, AreStates, Shape, seen, AreTables, lr1_no_conflict, Grammar, HasDistinctProductions, HasMoreSetsThan, kind_of, item_of, TableFault, TooManySets, Memory, IsConflictOf, IsRight, RefutesLr1}
+use Rattle.tables.proofs.Std.{◌≡◌, ◌<◌, ◌≤◌, ℕ, [], None, MatchOption, length, slice_index_or, sym, ◌∙◌, subst, arith}
+use Rattle.tables.proofs.Common.{AllProductive, AreMoves, AreAllMoves, IsClashAt, Made, AreMade, Found, AreStates, Shape, seen, AreTables, lr1_no_conflict, Grammar, HasDistinctProductions, HasMoreSetsThan, kind_of, item_of, TableFault, TooManySets, Memory, IsConflictOf, IsRight, RefutesLr1}
 use Rattle.tables.proofs.AllSets.{no_conflict}
 use Rattle.tables.proofs.SetCount.{no_more_sets}
 use Rattle.tables.proofs.Right.{right}

@@ -1,5 +1,6 @@
 -- Where prefixes lead.
-use Rattle.tables.proofs.Common.{◌≡◌, ℕ, List, [], ◌∷◌, ◌++◌, Option, Some, None, refl, sym, ap, ◌∙◌, subst, IfSome, append_snoc, append-nil, Symbol, Sets, follower, next_state, state_from, state_after}
+use Rattle.tables.proofs.Std.{◌≡◌, ℕ, List, [], ◌∷◌, ◌++◌, Option, Some, None, refl, sym, ap, ◌∙◌, subst, IfSome, append_snoc, append-nil}
+use Rattle.tables.proofs.Common.{Symbol, Sets, follower, next_state, state_from, state_after}
 
 state_from-more : (t : Sets) (o : Option ℕ) (u : List Symbol) (x : Symbol) → state_from t o (u ++ x ∷ []) ≡ next_state t (state_from t o u) x
 state_from-more t o [] x = refl

@@ -1,4 +1,5 @@
 pub mod Common
+pub mod Std
 pub mod OneMoreItem
 pub mod DecisionOfPrefix
 pub mod LookaheadMarks

@@ -1,5 +1,6 @@
 -- Marks of what some items ask for.
-use Rattle.tables.proofs.Common.{◌≡◌, ◌+◌, ◌<◌, ℕ, Bool, true, false, List, length, slice_index_or, slice_set, ap, ◌∙◌, subst, ⊎_elim, arith, get_or-set_other, cases_eq, get_or_default, get_or-set_same, Item}
+use Rattle.tables.proofs.Std.{◌≡◌, ◌+◌, ◌<◌, ℕ, Bool, true, false, List, length, slice_index_or, slice_set, ap, ◌∙◌, subst, ⊎_elim, arith, get_or-set_other, cases_eq, get_or_default, get_or-set_same}
+use Rattle.tables.proofs.Common.{Item}
 
 module _ {S : Type 0} (number : S → ℕ) (Asks : Item → S → Type 0) (items : List Item) where
   -- what the items before a place ask for is marked

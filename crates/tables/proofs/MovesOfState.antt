@@ -1,5 +1,8 @@
 -- The moves of a state, and the gotos and moves of one state more.
-use Rattle.tables.proofs.Common.{◌≡◌, ◌+◌, ◌<◌, ℕ, List, [], ◌∷◌, ◌++◌, Option, Some, None, MatchOption, All, drop, length, length-append, slice_index_or, refl, sym, ap, ◌∙◌, subst, inl, inr, ⊎_elim, arith, IfSome, option_map, cases_lt, get_or-drop, length-drop, Symbol, Terminal, Nonterminal, Grammar, LrItem, IsValid, LrShift, HasMove, HasItem, kind_of, ByRules, Goto, rules_valid, valid_rules, Decided, Moves, AClash, Move, Shift, Item, Call, ToShift, ClashAt, IsOnlyMove, IsMoveAt, AreMoves, IsClashAt, Made, AddsMoves, AreAllMoves, AreMade, kernel_at, GoesOn, IsStep, IsRow, AreGotos, HasSteps, lookahead_at, Shape, IsKnown, move_of, chosen, AreChosen, IsClash, IsDecided, IsItem, HasKernel, HasSet, number, lookahead_small, symbol_of-number, each_more, step_goes_on}
+use Rattle.tables.proofs.Std.{◌≡◌, ◌+◌, ◌<◌, ℕ, List, [], ◌∷◌, ◌++◌, Option, Some, None, MatchOption, All, drop, length, length-append, slice_index_or, refl, sym, ap, ◌∙◌, subst, inl, inr, ⊎_elim, arith, IfSome, option_map, cases_lt, get_or-drop, length-drop}
+use Rattle.tables.proofs.Common.{Symbol, Terminal, Nonterminal, Grammar, LrItem, IsValid, LrShift, HasMove, HasItem, kind_of}
+use Rattle.tables.proofs.Common.{ByRules, Goto, rules_valid, valid_rules, Item, kernel_at, GoesOn, IsStep, IsRow, lookahead_at, Shape, IsKnown, IsItem, HasKernel, HasSet, number, lookahead_small, symbol_of-number, each_more, step_goes_on}
+use Rattle.tables.proofs.Common.{Decided, Moves, AClash, Move, Shift, Call, ToShift, ClashAt, IsOnlyMove, IsMoveAt, AreMoves, IsClashAt, Made, AddsMoves, AreAllMoves, AreMade, AreGotos, HasSteps, move_of, chosen, AreChosen, IsClash, IsDecided}
 use Rattle.tables.specs.declared.decisions.Clash.{Clash}
 use Rattle.tables.proofs.DecisionOfPrefix.{no_move, the_move, is_conflict}
 

@@ -1,5 +1,6 @@
 -- The numbers from a bound on that have a property, in order.
-use Rattle.tables.proofs.Common.{◌≡◌, ◌≤◌, ◌<◌, ◌+◌, ℕ, zero, suc, List, [], ◌∷◌, length, sym, subst, ⊎_elim, arith, slice_index, Contains, IsStrictlyIncreasing, cases_lt, Contains-first, Contains-later, Contains-cases, Contains-none}
+use Rattle.tables.proofs.Std.{◌≡◌, ◌≤◌, ◌<◌, ◌+◌, ℕ, zero, suc, List, [], ◌∷◌, length, sym, subst, ⊎_elim, arith, slice_index, Contains, IsStrictlyIncreasing, cases_lt}
+use Rattle.tables.proofs.Common.{Contains-first, Contains-later, Contains-cases, Contains-none}
 
 -- these are in order the numbers with the property, of the m numbers from k on
 pub record AreThose (P : ℕ → Type 0) (k m : ℕ) (numbers : List ℕ) : Type 0 where

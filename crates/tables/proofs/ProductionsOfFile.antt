@@ -1,5 +1,6 @@
 -- The productions of a grammar file are sound.
-use Rattle.tables.proofs.Common.{◌≡◌, ℕ, length, slice_index_or, take, refl, sym, ap, ◌∙◌, arith, take-length, Token, Symbol, Terminal, Nonterminal, IsProductive, AllProductive, Leaf, Shape, IsKnown, IsSound, FileGrammar, IsUsable, IsGrammar}
+use Rattle.tables.proofs.Std.{◌≡◌, ℕ, length, slice_index_or, take, refl, sym, ap, ◌∙◌, arith, take-length}
+use Rattle.tables.proofs.Common.{Token, Symbol, Terminal, Nonterminal, IsProductive, AllProductive, Leaf, Shape, IsKnown, IsSound, FileGrammar, IsUsable, IsGrammar}
 
 -- the grammar of a file with its first `n` productions
 abbrev pub first_productions : FileGrammar → ℕ → Shape

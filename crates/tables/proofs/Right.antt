@@ -1,5 +1,7 @@
 -- The rows that are made are right for each prefix that leads to their state.
-use Rattle.tables.proofs.Common.{◌≡◌, ◌+◌, ◌<◌, ◌≤◌, ℕ, List, [], ◌∷◌, ◌++◌, Option, Some, None, length, slice_index_or, sym, subst, inl, inr, ⊎_elim, arith, IfSome, cases_lt, get_or_past, Contains-get_or, Token, Symbol, Terminal, Nonterminal, HasItem, kind_of, start_item, start_kernel, no_item, lookahead_at-rule, kernel_at, Found, AreStates, IsStep, Shape, item_of, HasKernel, AreMoves, IsMoveAt, AreGotos, Sets, seen, move_at, goto_at, shifted_to, follower, state_after, IsAction, IsRightAt, Move, Shift}
+use Rattle.tables.proofs.Std.{◌≡◌, ◌+◌, ◌<◌, ◌≤◌, ℕ, List, [], ◌∷◌, ◌++◌, Option, Some, None, length, slice_index_or, sym, subst, inl, inr, ⊎_elim, arith, IfSome, cases_lt, get_or_past, Contains-get_or}
+use Rattle.tables.proofs.Common.{Token, Symbol, Terminal, Nonterminal, HasItem, kind_of}
+use Rattle.tables.proofs.Common.{start_item, start_kernel, no_item, lookahead_at-rule, kernel_at, Found, AreStates, IsStep, Shape, item_of, HasKernel, AreMoves, IsMoveAt, AreGotos, Sets, seen, move_at, goto_at, shifted_to, follower, state_after, IsAction, IsRightAt, Move, Shift}
 use Rattle.tables.proofs.AllSets.{Stands, no_far_move, next_known}
 use Rattle.tables.proofs.Leading.{holds_after}
 

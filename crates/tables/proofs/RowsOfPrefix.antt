@@ -1,5 +1,6 @@
 -- What tables say of a prefix that leads to a state.
-use Rattle.tables.proofs.Common.{◌≡◌, ◌+◌, ◌≤◌, ℕ, List, [], ◌∷◌, ◌++◌, Option, Some, None, MatchOption, slice_index_or, ap, ◌∙◌, arith, get_or_past, Symbol, Terminal, Nonterminal, HasItem, Sets, IsStateOf, IsRightAt, AreTables, move_at, goto_at, shifted_to, state_after, Shift}
+use Rattle.tables.proofs.Std.{◌≡◌, ◌+◌, ◌≤◌, ℕ, List, [], ◌∷◌, ◌++◌, Option, Some, None, MatchOption, slice_index_or, ap, ◌∙◌, arith, get_or_past}
+use Rattle.tables.proofs.Common.{Symbol, Terminal, Nonterminal, HasItem, Sets, IsStateOf, IsRightAt, AreTables, move_at, goto_at, shifted_to, state_after, Shift}
 use Rattle.tables.proofs.Leading.{state_after-more, state_after-none}
 
 module _ (nonterminals : ℕ) (t : Sets) (tables : AreTables nonterminals t) where

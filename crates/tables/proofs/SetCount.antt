@@ -1,5 +1,7 @@
 -- The number of sets: as many as there are states.
-use Rattle.tables.proofs.Common.{◌≡◌, ◌≢◌, ◌<◌, ◌≤◌, ℕ, zero, suc, true, List, [], ◌∷◌, All, Contains, length, slice_index_or, refl, sym, ap, ◌∙◌, subst, inl, inr, arith, AllPairs, list_any, eqb, Decides-eqb, eqb-true, get_or_default, length-take-le, All-head, All-tail, Any-from_list_any, IsDistinct-from_AllPairs, length-le_from_distinct_below, Symbol, HasItem, HaveSameItems, HasMoreSetsThan, AllProductive, IsKernel, Item, kernel_at, IsReached, Found, AreStates, IsOrdered, HasSteps, Shape, IsSound, IsInside, side, item_of, IsItem, HasKernel, start_item, same_sets, rising_same}
+use Rattle.tables.proofs.Std.{◌≡◌, ◌≢◌, ◌<◌, ◌≤◌, ℕ, zero, suc, true, List, [], ◌∷◌, All, Contains, length, slice_index_or, refl, sym, ap, ◌∙◌, subst, inl, inr, AllPairs, list_any}
+use Rattle.tables.proofs.Std.{arith, eqb, Decides-eqb, eqb-true, get_or_default, length-take-le, All-head, All-tail, Any-from_list_any, IsDistinct-from_AllPairs, length-le_from_distinct_below}
+use Rattle.tables.proofs.Common.{Symbol, HasItem, HaveSameItems, HasMoreSetsThan, AllProductive, IsKernel, Item, kernel_at, IsReached, Found, AreStates, IsOrdered, HasSteps, Shape, IsSound, IsInside, side, item_of, IsItem, HasKernel, start_item, same_sets, rising_same}
 use Rattle.tables.proofs.AllSets.{all_stand}
 
 -- what holds of two first elements, and of the elements of two lists at each place, holds with the first ones in front

@@ -1,5 +1,7 @@
 -- Every prefix with an item leads to a state, whose moves decide what its items call for.
-use Rattle.tables.proofs.Common.{◌≡◌, ◌⊎◌, ℕ, List, [], ◌∷◌, ◌++◌, Option, Some, None, refl, inl, inr, Kind, Token, Invalid, Symbol, Terminal, Nonterminal, Grammar, LrItem, LrMove, HasMove, HasItem, kind_of, ByRules, Start, Goto, Close, rules_valid, valid_rules, Move, plain, AreMovesDecided, Sets, IsStateOf, IsAction, AreTables, move_at, goto_at, LrShift as Shift, Reduce, Accept, Shift as ToShift}
+use Rattle.tables.proofs.Std.{◌≡◌, ◌⊎◌, ℕ, List, [], ◌∷◌, ◌++◌, Option, Some, None, refl, inl, inr}
+use Rattle.tables.proofs.Common.{Kind, Token, Invalid, Symbol, Terminal, Nonterminal, Grammar, LrItem, LrMove, HasMove, HasItem, kind_of, LrShift as Shift, Reduce, Accept}
+use Rattle.tables.proofs.Common.{ByRules, Start, Goto, Close, rules_valid, valid_rules, Move, plain, AreMovesDecided, Sets, IsStateOf, IsAction, AreTables, move_at, goto_at, Shift as ToShift}
 use Rattle.tables.specs.declared.decisions.Move.TheVariants.{Reduce as ToReduce, Accept as ToAccept}
 use Rattle.tables.proofs.RowsOfPrefix.{start_state, right, shift_state, goes}
 

@@ -1,5 +1,7 @@
 -- Where it is decided what items call for, each list of kinds has a verdict.
-use Rattle.tables.proofs.Common.{◌≡◌, ◌⊎◌, ℕ, List, [], ◌∷◌, ◌++◌, Option, Some, None, length, refl, sym, subst, inl, inr, ⊎_elim, append_assoc, append-nil, Kind, Token, Symbol, Terminal, Grammar, Tree, Leaf, HaveRoots, Verdict, HasTree, FaultAt, FaultAtEnd, IsVerdict, IsTreeOf, HasMove, HasItem, Start, Stay, IsStackAfter, StackHasMove, stack_exists, rules_valid, roots-append, move_iff_viable, move_iff_sentence, roots_unique, verdict_at_kind, verdict_at_end, AreMovesDecided, IsAccepted, LrShift as Shift}
+use Rattle.tables.proofs.Std.{◌≡◌, ◌⊎◌, ℕ, List, [], ◌∷◌, ◌++◌, Option, Some, None, length, refl, sym, subst, inl, inr, ⊎_elim, append_assoc, append-nil}
+use Rattle.tables.proofs.Common.{Kind, Token, Symbol, Terminal, Grammar, Tree, Leaf, HaveRoots, Verdict, HasTree, FaultAt, FaultAtEnd, IsVerdict, IsTreeOf, HasMove, HasItem, LrShift as Shift}
+use Rattle.tables.proofs.Common.{Start, Stay, IsStackAfter, StackHasMove, stack_exists, rules_valid, roots-append, move_iff_viable, move_iff_sentence, roots_unique, verdict_at_kind, verdict_at_end, AreMovesDecided, IsAccepted}
 use Rattle.tables.proofs.MovesOfState.{shift_item}
 
 module _ (g : Grammar) where

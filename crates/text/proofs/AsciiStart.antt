@@ -1,5 +1,6 @@
 -- Bytes in ASCII at the start of a text are its first characters.
-use Rattle.text.proofs.Common.{arith, sym, ap, subst, ◌∙◌, ◌≡◌, ◌<◌, ◌≤◌, ℕ, zero, suc, ◌+◌, All, List, ◌++◌, length, length-append, take, drop, slice_index_or, append_assoc, chars, IsAscii, IsCharBoundary, IsUtf8, drop_at, get_or-take, length-take, take_at, take-append-drop, All-get_or, chars-append, chars-IsAscii, IsCharBoundary-after_ascii, IsCharBoundary-start, IsUtf8-from_ascii, IsAscii-from_all}
+use Rattle.text.proofs.Std.{arith, length-append, append_assoc, drop_at, get_or-take, length-take, take_at, take-append-drop, All-get_or, chars-append, chars-IsAscii, IsCharBoundary-after_ascii, IsCharBoundary-start, IsUtf8-from_ascii, IsAscii-from_all}
+use Rattle.text.proofs.Std.{sym, ap, subst, ◌∙◌, ◌≡◌, ◌<◌, ◌≤◌, ℕ, zero, suc, ◌+◌, All, List, ◌++◌, length, take, drop, slice_index_or, chars, IsAscii, IsCharBoundary, IsUtf8}
 
 -- the first `n` bytes of `bs` are in ASCII, and `rest` stands after all of them
 module _ (bs : List ℕ) (n : ℕ) (within : n ≤ length bs) (all : All (λ x. x < 128) (take n bs)) where

@@ -1,4 +1,5 @@
 pub mod Common
+pub mod Std
 pub mod AsciiStart
 mod Lines
 mod Sizes

@@ -1,5 +1,7 @@
 -- How the position of an offset follows from that of the offset before it.
-use Rattle.text.proofs.Common.{zero, suc, ◌*◌, ◌⊎◌, Bool, false, not, ◌||◌, ◌==◌, nat_lt, slice_index, prefix_len, cases_lt, cases_Bool, false≢true, ne_eqb, len_utf8_bounds, drop_more, get_or-drop, get_or-take, length-take, take_more, take_all, length-prefix_len, prefix_len_passes, sum_by_push, sum_by-cons, Position, Encoding, Utf8, Utf16, Utf32, ends_break, line_of, line_start, line_from, unit, units, position, in_line_end, arith, cond, length-drop, refl, sym, ap, subst, inl, inr, ◌∙◌, ◌≡◌, ℕ, ◌+◌, ◌-◌, ◌<◌, ◌≤◌, true, List, [], ◌∷◌, length, take, drop}
+use Rattle.text.proofs.Std.{zero, suc, ◌*◌, ◌⊎◌, Bool, false, not, ◌||◌, ◌==◌, nat_lt, slice_index, prefix_len, cond, refl, sym, ap, subst, inl, inr, ◌∙◌, ◌≡◌, ℕ, ◌+◌, ◌-◌, ◌<◌, ◌≤◌, true, List, [], ◌∷◌, length, take, drop}
+use Rattle.text.proofs.Std.{cases_lt, cases_Bool, false≢true, ne_eqb, len_utf8_bounds, drop_more, get_or-drop, get_or-take, length-take, take_more, take_all, length-prefix_len, prefix_len_passes, sum_by_push, sum_by-cons, arith, length-drop}
+use Rattle.text.proofs.Common.{Position, Encoding, Utf8, Utf16, Utf32, ends_break, line_of, line_start, line_from, unit, units, position, in_line_end}
 use Rattle.text.proofs.Lines.{Reached, Reached-start, Reached-break, Reached-same, Reached-end}
 
 -- the character is of the line

@@ -1,5 +1,6 @@
 -- How many bytes a text and its parts have in UTF-8.
-use Rattle.text.proofs.Common.{IsUtf8, chars, take-append-drop, take-add, encodes-append, length-le-encodes, edit, units, Utf8, text_in, Cut, IsCut, units-bytes, IsStored, arith, sym, ap, ◌∙◌, length-append, ◌≡◌, ℕ, ◌+◌, ◌-◌, ◌≤◌, List, ◌++◌, length, take, drop, encode_utf8_all}
+use Rattle.text.proofs.Std.{IsUtf8, chars, take-append-drop, take-add, encodes-append, length-le-encodes, arith, sym, ap, ◌∙◌, length-append, ◌≡◌, ℕ, ◌+◌, ◌-◌, ◌≤◌, List, ◌++◌, length, take, drop, encode_utf8_all}
+use Rattle.text.proofs.Common.{edit, units, Utf8, text_in, Cut, IsCut, units-bytes, IsStored}
 use Rattle.definitions.proofs.Characters.{encodes-chars}
 
 -- how many bytes the characters have

@@ -1,6 +1,9 @@
 -- A grammar without a conflict, all of whose symbols are productive, and one edit: the premises of the laws can be met.
 use Rattle.std.proofs.Common.{◌≡◌, ◌⊎◌, ℕ, zero, suc, List, [], ◌∷◌, ◌++◌, Option, Some, None, refl, sym, ap, ◌∙◌, subst, inl, inr, All}
-use Rattle.theory.proofs.Common.{head-eq_of_cons-eq, tail-eq_of_cons-eq, All-nil, All-cons, Kind, Token, Symbol, Terminal, Nonterminal, Grammar, Production, HasProduction, Tree, Leaf, Branch, Nil, Cons, HaveRoots, all_kinds, IsProductive, AllProductive, Item, Move, Shift, Reduce, Accept, kind_of, CallsFor, HasNoConflict, look_at, IsFirst, ByRules, Start, Goto, Close, Here, Splice, Stamped, StampedForest, StampedLeaf, StampedBranch, StampedNil, StampedCons, plain_all, stamped_trees, StampedIn, StampedTop, StampedBelow, StampedPast, AreStampedExactly, Shifts, Reduces, AtEnd, Nothing_left, At_token, Goes_on, Ends, Takes_token, Makes, IsPrepared, AreStampedByRun}
+use Rattle.theory.proofs.Std.{head-eq_of_cons-eq, tail-eq_of_cons-eq, All-nil, All-cons}
+use Rattle.theory.proofs.Common.{Kind, Token, Symbol, Terminal, Nonterminal, Grammar, Production, HasProduction, Tree, Leaf, Branch, Nil, Cons, HaveRoots, all_kinds, IsProductive, AllProductive, Item, Move, Shift, Reduce, Accept, kind_of, CallsFor, HasNoConflict, Here, Splice}
+use Rattle.theory.proofs.Common.{Stamped, StampedForest, StampedLeaf, StampedBranch, StampedNil, StampedCons, plain_all, stamped_trees, StampedIn, StampedTop, StampedBelow, StampedPast, AreStampedExactly}
+use Rattle.theory.proofs.Common.{look_at, IsFirst, ByRules, Start, Goto, Close, Shifts, Reduces, AtEnd, Nothing_left, At_token, Goes_on, Ends, Takes_token, Makes, IsPrepared, AreStampedByRun}
 use Rattle.theory.proofs.Rules.{valid_rules, kind_same}
 use Rattle.theory.proofs.Stack.{nowhere}
 use Rattle.theory.proofs.MadeIsBuilt.{not_in_leaf}

@@ -1,5 +1,7 @@
 -- What could be taken over is taken over: no node that the edit keeps is broken before it is tried.
-use Rattle.theory.proofs.Common.{◌≡◌, ◌⊎◌, ◌+◌, ◌<◌, ◌≤◌, List, [], ◌∷◌, ◌++◌, length, Option, Some, None, refl, sym, ap, ◌∙◌, subst, inl, inr, ⊎_elim, arith, append_assoc, length-append, append-nil, append_cancel_left, append_cancel_right, cases_lt, head-eq_of_cons-eq, tail-eq_of_cons-eq, Kind, Grammar, Tree, Forest, Leaf, Branch, Nil, Cons, trees, yield, yields, all_kinds, AllProductive, HasNoConflict, look_at, Reduces, Shifts, Run, Stay, Reduced, Shifted, StandsIn, Top, Below, Past, branches, branches_of, all_branches, CanReuse, NextInput, Take, AtToken, AtEnd, Tries, Nothing_left, Dropped, Passed, Opened, At_token, IsNoTree, Goes_on, Ends, Reuses, Takes_token, Makes}
+use Rattle.theory.proofs.Std.{◌≡◌, ◌⊎◌, ◌+◌, ◌<◌, ◌≤◌, List, [], ◌∷◌, ◌++◌, length, Option, Some, None, refl, sym, ap, ◌∙◌, subst, inl, inr, ⊎_elim, arith, append_assoc, length-append, append-nil, append_cancel_left, append_cancel_right, cases_lt, head-eq_of_cons-eq, tail-eq_of_cons-eq}
+use Rattle.theory.proofs.Common.{Kind, Grammar, Tree, Forest, Leaf, Branch, Nil, Cons, trees, yield, yields, all_kinds, AllProductive, HasNoConflict, StandsIn, Top, Below, Past, branches, branches_of, all_branches}
+use Rattle.theory.proofs.Common.{look_at, Reduces, Shifts, Run, Stay, Reduced, Shifted, CanReuse, NextInput, Take, AtToken, AtEnd, Tries, Nothing_left, Dropped, Passed, Opened, At_token, IsNoTree, Goes_on, Ends, Reuses, Takes_token, Makes}
 use Rattle.theory.proofs.Simulation.{look-append}
 use Rattle.theory.proofs.Unique.{reduces_unique, no_reduction_at_shift}
 use Rattle.theory.proofs.StackIsRead.{kinds-append, kinds-trees, run_kinds}

@@ -1,5 +1,7 @@
 -- The proofs of the laws, from the lemmas of the other files.
-use Rattle.theory.proofs.Common.{◌∙◌, ◌≡◌, ◌⊎◌, ◌+◌, ◌<◌, ◌≤◌, ℕ, List, [], ◌∷◌, ◌++◌, take, None, refl, sym, ap, subst, inl, inr, arith, append-nil, cases_lt, Kind, Grammar, Tree, Leaf, Branch, yield, all_kinds, AllProductive, IsSentence, IsViable, Verdict, HasTree, FaultAt, FaultAtEnd, IsVerdict, HasNoConflict, StandsIn, AreDocumentTrees, plain_trees, look_at, Run, IsStackAfter, CanReuse, Goes_on, AreAnswer, StampsExactly}
+use Rattle.theory.proofs.Std.{◌∙◌, ◌≡◌, ◌⊎◌, ◌+◌, ◌<◌, ◌≤◌, ℕ, List, [], ◌∷◌, ◌++◌, take, None, refl, sym, ap, subst, inl, inr, arith, append-nil, cases_lt}
+use Rattle.theory.proofs.Common.{Kind, Grammar, Tree, Leaf, Branch, yield, all_kinds, AllProductive, IsSentence, IsViable, Verdict, HasTree, FaultAt, FaultAtEnd, IsVerdict, HasNoConflict, StandsIn, AreDocumentTrees, plain_trees}
+use Rattle.theory.proofs.Common.{look_at, Run, IsStackAfter, CanReuse, Goes_on, AreAnswer, StampsExactly}
 use Rattle.theory.proofs.Incremental.{goes_on_passes}
 use Rattle.theory.proofs.ReusableNodes.{Taken}
 use Rattle.theory.proofs.Theorems.{one_tree, settled_exists, settled_unique, settled_run, reuse}

@@ -1,5 +1,8 @@
 -- What the incremental machine makes is exactly what lies in no kept node.
-use Rattle.theory.proofs.Common.{◌≡◌, ◌⊎◌, ◌↔◌, ◌<◌, ℕ, List, [], ◌∷◌, ◌++◌, length, refl, sym, ap, ◌∙◌, subst, inl, inr, ⊎_elim, arith, append_assoc, append-nil, head-eq_of_cons-eq, tail-eq_of_cons-eq, Kind, Grammar, Tree, Forest, Leaf, Branch, Nil, trees, yields, all_kinds, IsTreeOf, AllProductive, HasNoConflict, IsSettledIn, StandsIn, Top, Below, Past, branches, all_branches, Splice, LiesInKept, Stamped, StampedForest, StampedNil, StampedCons, plain, plain_all, stamped_trees, plain_trees, StampedIn, StampedTop, StampedBelow, StampedPast, AreStampedExactly, MakesAt, IsPrepared, Goes_on, Ends, Reuses, Takes_token, Makes}
+use Rattle.theory.proofs.Std.{◌≡◌, ◌⊎◌, ◌↔◌, ◌<◌, ℕ, List, [], ◌∷◌, ◌++◌, length, refl, sym, ap, ◌∙◌, subst, inl, inr, ⊎_elim, arith, append_assoc, append-nil, head-eq_of_cons-eq, tail-eq_of_cons-eq}
+use Rattle.theory.proofs.Common.{Kind, Grammar, Tree, Forest, Leaf, Branch, Nil, trees, yields, all_kinds, IsTreeOf, AllProductive, HasNoConflict, IsSettledIn, StandsIn, Top, Below, Past, branches, all_branches, Splice}
+use Rattle.theory.proofs.Common.{LiesInKept, Stamped, StampedForest, StampedNil, StampedCons, plain, plain_all, stamped_trees, plain_trees, StampedIn, StampedTop, StampedBelow, StampedPast, AreStampedExactly}
+use Rattle.theory.proofs.Common.{MakesAt, IsPrepared, Goes_on, Ends, Reuses, Takes_token, Makes}
 use Rattle.theory.proofs.Stack.{stands_in_prefix, stands_after, stands_in_fold, stands_on_top, nowhere}
 use Rattle.theory.proofs.ReusableNodes.{Taken, sentence_node}
 use Rattle.theory.proofs.KeptIsReused.{TakesOver, stands_branches, branches-append, branches-trees}

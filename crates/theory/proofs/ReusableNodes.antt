@@ -1,6 +1,9 @@
 -- Each node of a tree is one that the machine could take over whole: at its left siblings, goto by its root
 -- leads to a set with a move on what follows it.
-use Rattle.theory.proofs.Common.{◌≡◌, ℕ, List, [], ◌∷◌, ◌++◌, Option, Some, None, refl, sym, ap, ◌∙◌, subst, append_assoc, append-nil, head-eq_of_cons-eq, tail-eq_of_cons-eq, Kind, Token, Invalid, Symbol, Terminal, Nonterminal, Grammar, HasProduction, Tree, Forest, Leaf, Branch, Nil, Cons, IsTree, AreTrees, forest, yield, yields, HaveRoots, all_kinds, IsTreeOf, tokens, first, Here, Reaches, Move, Shift, Accept, kind_of, HasMove, look_at, Run, Stay, StandsIn, Top, Below, Past}
+use Rattle.theory.proofs.Std.{◌≡◌, ℕ, List, [], ◌∷◌, ◌++◌, Option, Some, None, refl, sym, ap, ◌∙◌, subst, append_assoc, append-nil, head-eq_of_cons-eq, tail-eq_of_cons-eq}
+use Rattle.theory.proofs.Common.{Kind, Token, Invalid, Symbol, Terminal, Nonterminal, Grammar, HasProduction, Tree, Forest, Leaf, Branch, Nil, Cons, IsTree, AreTrees, forest, yield, yields, HaveRoots, all_kinds, IsTreeOf, tokens, first, Here, Reaches, Move, Shift, Accept, kind_of, HasMove}
+use Rattle.theory.proofs.Common.{StandsIn, Top, Below, Past}
+use Rattle.theory.proofs.Common.{look_at, Run, Stay}
 use Rattle.theory.proofs.Words.{words, yields-words, tokens-append}
 use Rattle.theory.proofs.Simulation.{head_run, tree_run, moved_dot, look-append, see_word, look-yields, run_join, leaf_of, reach_next, roots-trees}
 use Rattle.theory.proofs.StackIsRead.{yields-forest, kinds-trees, roots-forest}

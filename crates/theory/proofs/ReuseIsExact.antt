@@ -1,5 +1,7 @@
 -- What the incremental machine takes over is exactly what the edit keeps.
-use Rattle.theory.proofs.Common.{◌≡◌, ◌⊎◌, inl, inr, ⊎_elim, ◌+◌, ◌<◌, ℕ, List, [], ◌∷◌, ◌++◌, length, None, refl, sym, ap, ◌∙◌, subst, arith, append_assoc, length-append, append-nil, append_cancel_left, Kind, Nonterminal, Token, Invalid, IsTree, Grammar, Tree, Forest, Leaf, Branch, trees, yield, yields, all_kinds, AllProductive, HasMove, HasNoConflict, Way, WayAmong, At, Down, This, Next, IsSettledIn, look_at, Run, Stay, Reduced, StandsIn, Top, Below, Past, place_of, Splice, IsKept, IsPrepared, CanReuse, NextInput, Take, Tries, Nothing_left, Dropped, Passed, Opened, At_token, Goes_on, Ends, Reuses, Takes_token, Makes}
+use Rattle.theory.proofs.Std.{◌≡◌, ◌⊎◌, inl, inr, ⊎_elim, ◌+◌, ◌<◌, ℕ, List, [], ◌∷◌, ◌++◌, length, None, refl, sym, ap, ◌∙◌, subst, arith, append_assoc, length-append, append-nil, append_cancel_left}
+use Rattle.theory.proofs.Common.{Kind, Nonterminal, Token, Invalid, IsTree, Grammar, Tree, Forest, Leaf, Branch, trees, yield, yields, all_kinds, AllProductive, HasMove, HasNoConflict, Way, WayAmong, At, Down, This, Next, IsSettledIn, StandsIn, Top, Below, Past, place_of, Splice, IsKept}
+use Rattle.theory.proofs.Common.{look_at, Run, Stay, Reduced, IsPrepared, CanReuse, NextInput, Take, Tries, Nothing_left, Dropped, Passed, Opened, At_token, Goes_on, Ends, Reuses, Takes_token, Makes}
 use Rattle.theory.proofs.StackIsRead.{kinds-append, kinds-trees, run_kinds}
 use Rattle.theory.proofs.Lists.{ends_equal}
 use Rattle.theory.proofs.Simulation.{look-append}

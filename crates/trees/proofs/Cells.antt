@@ -1,5 +1,7 @@
 -- Growing and cutting a store keeps the trees of the nodes that stay.
-use Rattle.trees.proofs.Common.{◌≡◌, ℕ, ◌+◌, ◌<◌, ◌≤◌, zero, suc, min, List, [], ◌∷◌, ◌++◌, length, take, drop, get_or, refl, sym, ap, ◌∙◌, subst, arith, append_assoc, length-append, take-append-drop, length-take, slice_get, IfSome, inl, inr, append-nil, get_or_append_left, take_all, cases_lt, get_or-append_seam, Invalid, Stamped, StampedLeaf, StampedBranch, plain_all, StampedCons, yields, branches_of, Child, NodeId, Token, Node, Cell, most, tree_of, forest_of, branch_of, trees_from, IsBelow, AreBelow, tree, tokens_below, branches_below, IsCell, AreCells}
+use Rattle.trees.proofs.Std.{◌≡◌, ℕ, ◌+◌, ◌<◌, ◌≤◌, zero, suc, min, List, [], ◌∷◌, ◌++◌, length, take, drop, get_or, refl, sym, ap, ◌∙◌, subst, slice_get, IfSome, inl, inr}
+use Rattle.trees.proofs.Std.{arith, append_assoc, length-append, take-append-drop, length-take, append-nil, get_or_append_left, take_all, cases_lt, get_or-append_seam}
+use Rattle.trees.proofs.Common.{Invalid, Stamped, StampedLeaf, StampedBranch, plain_all, StampedCons, yields, branches_of, Child, NodeId, Token, Node, Cell, most, tree_of, forest_of, branch_of, trees_from, IsBelow, AreBelow, tree, tokens_below, branches_below, IsCell, AreCells}
 
 -- the trees of nodes after others
 pub from-append : (ts : List Stamped) (one two : List Cell) → trees_from ts (one ++ two) ≡ trees_from (trees_from ts one) two

@@ -1,5 +1,6 @@
 -- No more nodes are marked than the trees of the roots have branches.
-use Rattle.trees.proofs.Common.{◌≡◌, ℕ, ◌+◌, ◌<◌, ◌≤◌, zero, suc, Bool, true, false, List, [], ◌∷◌, cond, count_by, length, drop, get_or, set, replicate, refl, ap, arith, drop_more, sum_by-cons, all_branches, branches, branches_of, Stamped, StampedLeaf, Invalid, plain, plain_all, plain_trees, NodeId, Child, Token, Node, Cell, AreBelow, IsStore, blank, forest_of, nodes, sizes, tree, tree_of, trees_from, trees_of, mark_all, owed}
+use Rattle.trees.proofs.Std.{◌≡◌, ℕ, ◌+◌, ◌<◌, ◌≤◌, zero, suc, Bool, true, false, List, [], ◌∷◌, cond, count_by, length, drop, get_or, set, replicate, refl, ap, arith, drop_more, sum_by-cons}
+use Rattle.trees.proofs.Common.{all_branches, branches, branches_of, Stamped, StampedLeaf, Invalid, plain, plain_all, plain_trees, NodeId, Child, Token, Node, Cell, AreBelow, IsStore, blank, forest_of, nodes, sizes, tree, tree_of, trees_from, trees_of, mark_all, owed}
 use Rattle.trees.proofs.Cells.{from-length, store_at}
 
 branches-forest : (ts : List Stamped) (cs : List Child) → branches_of (plain_all (forest_of ts cs)) ≡ all_branches (plain_trees (trees_of ts cs))

@@ -1,5 +1,8 @@
 -- Marks, ranks, and the trees of nodes that slide down.
-use Rattle.trees.proofs.Common.{◌≡◌, ◌≢◌, ℕ, ◌+◌, ◌<◌, ◌≤◌, zero, suc, Bool, true, false, List, [], ◌∷◌, ◌++◌, length, map, take, drop, min, cond, count_by, get_or, set, refl, sym, ap, ◌∙◌, subst, arith, inl, inr, length-take, drop-drop, drop-set-lt, get_or-set_other, get_or-set_same, get_or_read_under, length-set, take-set-le, take-take, take_more_set, count_by-le-length, count_by_more_no, count_by_more_yes, sum_by-take-le, cases_lt, SwappedAt, Invalid, branches_of, StampedBranch, StampedCons, StampedLeaf, plain_all, yields, NodeId, Child, Token, Node, Cell, all_trees, blank, branch_of, forest_in, most, tree, trees_from, AreBelow, IsBelow, IsCell, IsStore, nodes, mark_all, rank, renamed, AreMarked, AreRanks, IsClosed, IsClosedFrom, IsMarked}
+use Rattle.trees.proofs.Std.{◌≡◌, ◌≢◌, ℕ, ◌+◌, ◌<◌, ◌≤◌, zero, suc, Bool, true, false, List, [], ◌∷◌, ◌++◌, length, map, take, drop, min, cond, count_by, get_or, set, refl, sym, ap, ◌∙◌, subst, inl, inr, SwappedAt}
+use Rattle.trees.proofs.Std.{arith, length-take, drop-drop, drop-set-lt, get_or-set_other, get_or-set_same, get_or_read_under, length-set, take-set-le, take-take, take_more_set, count_by-le-length, count_by_more_no, count_by_more_yes, sum_by-take-le, cases_lt}
+use Rattle.trees.proofs.Common.{Invalid, branches_of, StampedBranch, StampedCons, StampedLeaf, plain_all, yields}
+use Rattle.trees.proofs.Common.{NodeId, Child, Token, Node, Cell, all_trees, blank, branch_of, forest_in, most, tree, trees_from, AreBelow, IsBelow, IsCell, IsStore, nodes, mark_all, rank, renamed, AreMarked, AreRanks, IsClosed, IsClosedFrom, IsMarked}
 use Rattle.trees.proofs.Cells.{all_below-more, below-at, cell_made, cells-push, grown-new, grown-tree, store_at}
 
 first_of : {X : Type 0} (xs : List X) (k : ℕ) (d : X) → get_or (drop k xs) 0 d ≡ get_or xs k d

@@ -1,5 +1,8 @@
 -- The branches of trees around an offset: the spans are those of the nodes there, and each holds the later ones.
-use Rattle.views.proofs.Common.{◌≡◌, ◌⊎◌, inl, inr, ◌+◌, ◌<◌, ◌≤◌, ℕ, Bool, true, false, List, [], ◌∷◌, ◌++◌, length, refl, sym, ap, ◌∙◌, subst, arith, cond, nat_lt, AllPairs, Contains, cases_Bool, and_parts, and_from, and_left, lt-ltb, le-ltb, ltb-true, append-nil, Contains-append_cases, Contains-append_left, Contains-append_right, AllPairs-cons, Symbol, Terminal, Nonterminal, Grammar, Tree, Forest, Leaf, Branch, Nil, Cons, IsTree, AreTrees, HaveRoots, trees, yield, yields, all_kinds, Node, Contains-first, Contains-later, Contains-cases, Contains-none, kinds-trees, IsNodeFrom, is_around, spans_of, spans_in, spans_all, Holds}
+use Rattle.views.proofs.Std.{◌≡◌, ◌⊎◌, inl, inr, ◌+◌, ◌<◌, ◌≤◌, ℕ, Bool, true, false, List, [], ◌∷◌, ◌++◌, length, refl, sym, ap, ◌∙◌, subst, cond, nat_lt, AllPairs, Contains}
+use Rattle.views.proofs.Std.{arith, cases_Bool, and_parts, and_from, and_left, lt-ltb, le-ltb, ltb-true, append-nil, Contains-append_cases, Contains-append_left, Contains-append_right, AllPairs-cons}
+use Rattle.views.proofs.Common.{Symbol, Terminal, Nonterminal, Grammar, Tree, Forest, Leaf, Branch, Nil, Cons, IsTree, AreTrees, HaveRoots, trees, yield, yields, all_kinds, Node, Contains-first, Contains-later, Contains-cases, Contains-none}
+use Rattle.views.proofs.Common.{kinds-trees, IsNodeFrom, is_around, spans_of, spans_in, spans_all, Holds}
 use Rattle.views.proofs.NodesFrom.{nodes_from_none, nodes_from_leaf, nodes_from_branch, nodes_from_append, nodes_from_within, BranchParts, ListParts}
 use Rattle.views.proofs.Nested.{All-each, AllPairs-none, AllPairs-one}
 

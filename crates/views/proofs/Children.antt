@@ -1,5 +1,7 @@
 -- The spans of children in a store.
-use Rattle.views.proofs.Common.{◌≡◌, ◌+◌, ◌^◌, ◌<◌, ◌≤◌, min, ℕ, true, false, List, [], ◌∷◌, ◌++◌, length, refl, sym, ap, ◌∙◌, subst, arith, length-append, Option, Some, None, MatchOption, IfSome, trees, yield, yields, all_kinds, Stamped, StampedBranch, plain_all, plain_trees, kinds-trees, Child, NodeId, Cell, most, tree, tree_of, trees_of, trees_from, forest_of, IsBelow, AreBelow, all_below-more, Found, Point, trees_of_roots, is_around, spans_of, spans_in, spans_all, branch_at, IsBranchAround}
+use Rattle.views.proofs.Std.{◌≡◌, ◌+◌, ◌^◌, ◌<◌, ◌≤◌, min, ℕ, true, false, List, [], ◌∷◌, ◌++◌, length, refl, sym, ap, ◌∙◌, subst, arith, length-append, Option, Some, None, MatchOption, IfSome}
+use Rattle.views.proofs.Common.{trees, yield, yields, all_kinds, Stamped, StampedBranch, plain_all, plain_trees}
+use Rattle.views.proofs.Common.{kinds-trees, Child, NodeId, Cell, most, tree, tree_of, trees_of, trees_from, forest_of, IsBelow, AreBelow, all_below-more, Found, Point, trees_of_roots, is_around, spans_of, spans_in, spans_all, branch_at, IsBranchAround}
 use Rattle.definitions.specs.TreeEdits.{plain}
 use Rattle.trees.specs.declared.store.Child.TheVariants.{Token, Node}
 use Rattle.views.proofs.BranchesAround.{spans_trees, around_span, around_none, only_first}

@@ -1,5 +1,7 @@
 -- What is reported of a fault.
-use Rattle.views.proofs.Common.{flat_map, codes, flat_map-cons, slice_get_past, chars-append, Kind, Rule, Encoding, IsVerdict, position, Grammar, Placed, kinds, FileGrammar, Token, significant_kinds, plain, kinds_plain, length-kinds, Verdict, StopsAt, StopsAtEnd, AreExpectedAt, IsParseOf, Stop, verdict_in, AreExpected, in_file_order, Sets, Cell, placed_parts, IsDiagnosis, IsFaultAfter, looks, IsUtf8, arith, refl, sym, ap, subst, ◌∙◌, append_assoc, ◌≡◌, ℕ, ◌<◌, Bool, true, false, List, [], ◌∷◌, ◌++◌, length, map, take, slice_get, Option, Some, None, IsSomeAnd, option_map, All, Diagnostic, end_of, fault_span, listed, message, name_or_end, range_of}
+use Rattle.views.proofs.Std.{flat_map, codes, flat_map-cons, slice_get_past, chars-append, IsUtf8, arith, refl, sym, ap, subst, ◌∙◌, append_assoc, ◌≡◌, ℕ, ◌<◌, Bool, true, false, List, [], ◌∷◌, ◌++◌, length, map, take, slice_get, Option, Some, None, IsSomeAnd, option_map, All}
+use Rattle.views.proofs.Common.{Kind, Rule, Encoding, IsVerdict, position, Grammar, Placed, kinds, Diagnostic, end_of, fault_span, listed, message, name_or_end, range_of}
+use Rattle.views.proofs.Common.{FileGrammar, Token, significant_kinds, plain, kinds_plain, length-kinds, Verdict, StopsAt, StopsAtEnd, AreExpectedAt, IsParseOf, Stop, verdict_in, AreExpected, in_file_order, Sets, Cell, placed_parts, IsDiagnosis, IsFaultAfter, looks}
 use Rattle.std.specs.Str.{chars}
 use Rattle.std.proofs.Common.{length-take}
 use Rattle.views.proofs.Significant.{IsMarked, count_of_parts}

@@ -1,5 +1,8 @@
 -- The walk over trees that gathers the lines of the nodes that fold: what is still ahead of it, and each of its steps.
-use Rattle.views.proofs.Common.{◌≡◌, ◌⊎◌, inl, inr, ⊎_elim, ◌↔◌, ◌+◌, ◌-◌, ◌<◌, ◌≤◌, ℕ, List, [], ◌∷◌, ◌++◌, length, refl, sym, ap, ◌∙◌, subst, arith, length-append, Bool, true, false, Contains, All, slice_index_or, get_or-append_seam, cases_lt, append-nil, get_or_append_left, All-push, Contains-append_left, Contains-push, Contains-push_cases, Kind, Symbol, Terminal, Nonterminal, Grammar, Tree, Forest, Leaf, Branch, HasProduction, IsTree, HaveRoots, trees, yield, yields, all_kinds, branches, all_branches, Node, IsNodeOf, roots-trees, kinds-trees, branches-trees, production_unique, line_at, SpanLines, AreAscending, IsFold, AreSpanned, with_own, IsNodeFrom}
+use Rattle.views.proofs.Std.{◌≡◌, ◌⊎◌, inl, inr, ⊎_elim, ◌↔◌, ◌+◌, ◌-◌, ◌<◌, ◌≤◌, ℕ, List, [], ◌∷◌, ◌++◌, length, refl, sym, ap, ◌∙◌, subst, Bool, true, false, Contains, All, slice_index_or}
+use Rattle.views.proofs.Std.{arith, length-append, get_or-append_seam, cases_lt, append-nil, get_or_append_left, All-push, Contains-append_left, Contains-push, Contains-push_cases}
+use Rattle.views.proofs.Common.{Kind, Symbol, Terminal, Nonterminal, Grammar, Tree, Forest, Leaf, Branch, HasProduction, IsTree, HaveRoots, trees, yield, yields, all_kinds, branches, all_branches, Node, IsNodeOf}
+use Rattle.views.proofs.Common.{roots-trees, kinds-trees, branches-trees, production_unique, line_at, SpanLines, AreAscending, IsFold, AreSpanned, with_own, IsNodeFrom}
 use Rattle.views.proofs.NodesFrom.{IsBranchAt, nodes_from_start, nodes_from_none, nodes_from_leaf, nodes_from_branch, nodes_from_first, nodes_from_within}
 
 -- trees that are still to be gone over, and the place where the first one begins

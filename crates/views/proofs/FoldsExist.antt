@@ -1,5 +1,6 @@
 -- Trees have a list of folds: those of their parts, in order.
-use Rattle.views.proofs.Common.{arith, refl, sym, subst, inl, inr, ⊎_elim, ◌∙◌, ◌≡◌, ◌⊎◌, ◌↔◌, ℕ, suc, ◌+◌, ◌<◌, ◌≤◌, Bool, true, false, List, [], ◌∷◌, length, slice_index_or, slice_get, Option, Some, None, AllPairs, Contains, IsTrue, cases_lt, Contains-get_or, AllPairs-cons, line_of, Placed, Grammar, Production, Tree, Forest, Leaf, Branch, Nil, Cons, trees, yield, yields, Node, IsBefore, SpansLines, AreFolds, span, IsNodeOf, Contains-first, Contains-later, Contains-cases, Contains-none, production_unique, IsNodeFrom}
+use Rattle.views.proofs.Std.{arith, refl, sym, subst, inl, inr, ⊎_elim, ◌∙◌, ◌≡◌, ◌⊎◌, ◌↔◌, ℕ, suc, ◌+◌, ◌<◌, ◌≤◌, Bool, true, false, List, [], ◌∷◌, length, slice_index_or, slice_get, Option, Some, None, AllPairs, Contains, IsTrue, cases_lt, Contains-get_or, AllPairs-cons}
+use Rattle.views.proofs.Common.{line_of, Placed, Grammar, Production, Tree, Forest, Leaf, Branch, Nil, Cons, trees, yield, yields, Node, IsBefore, SpansLines, AreFolds, span, IsNodeOf, Contains-first, Contains-later, Contains-cases, Contains-none, production_unique, IsNodeFrom}
 use Rattle.views.proofs.NodesFrom.{IsBranchAt, nodes_from_start, nodes_from_none, nodes_from_leaf, nodes_from_branch, nodes_from_first}
 
 -- pairs in order, each once: those that are such

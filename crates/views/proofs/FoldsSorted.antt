@@ -1,5 +1,8 @@
 -- The lines that were gathered, sorted and each once, are the folds.
-use Rattle.views.proofs.Common.{IsEquivalence, IsTotalOrder, both_tied, unsigned_tied, dedup, IsPermutation, IsSorted, IsStrictlySortedBy, Ordering, Less, Equal, Greater, nat_cmp, ordering_then, eq_by_cmp, eqb-true, on_total, then_total, nat_cmp_total, and_equiv, on_equiv, ranked, Contains-dedup, Contains-from_dedup, IsStrictlySortedBy-dedup, Contains-permutation, IsPermutation-sym, Less-from_sorted, kinds, Tree, all_kinds, Node, IsBefore, IsNodeOf, FileGrammar, lines_of, AreSpanned, AreFoldsOf, placed_parts, arith, refl, sym, subst, inl, inr, ◌≡◌, ℕ, ◌≤◌, Bool, true, false, ◌&&◌, List, length, AllPairs, Contains, nat_eq, PlainToken as Token}
+use Rattle.views.proofs.Std.{IsEquivalence, IsTotalOrder, both_tied, unsigned_tied, dedup, IsPermutation, IsSorted, IsStrictlySortedBy, Ordering, Less, Equal, Greater, nat_cmp, ordering_then, eq_by_cmp, refl, sym, subst, inl, inr, ℕ, Bool, true, false, List, length, AllPairs, Contains, nat_eq}
+use Rattle.views.proofs.Std.{◌≡◌, ◌≤◌, ◌&&◌}
+use Rattle.views.proofs.Std.{eqb-true, on_total, then_total, nat_cmp_total, and_equiv, on_equiv, ranked, Contains-dedup, Contains-from_dedup, IsStrictlySortedBy-dedup, Contains-permutation, IsPermutation-sym, Less-from_sorted, arith}
+use Rattle.views.proofs.Common.{kinds, Tree, all_kinds, Node, IsBefore, IsNodeOf, FileGrammar, lines_of, AreSpanned, AreFoldsOf, placed_parts, PlainToken as Token}
 use Rattle.std.proofs.lemmas.Cmp.{nat_eq_equiv}
 use Rattle.views.proofs.LinesOfTokens.{length-significant, spans_lines}
 use Rattle.views.proofs.NodesFrom.{nodes_from_start, nodes_from_within}

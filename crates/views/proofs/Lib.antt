@@ -1,4 +1,5 @@
 pub mod Common
+pub mod Std
 pub mod SignificantOrder
 pub mod BranchesAround
 pub mod Children

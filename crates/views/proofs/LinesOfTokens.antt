@@ -1,5 +1,7 @@
 -- The lines of tokens: listed one after another, ascending, and those that nodes span.
-use Rattle.views.proofs.Common.{min, nat_le, not, slice_index, le-leb, leb-true, append-nil, length-map, All-nil, All-cons, All-head, All-tail, All-weaker, AllPairs-cons, AllPairs-filter, Invalid, Utf16, line_of, position, break_ends, PlainToken, Placed, placed, is_skipped, significant, kinds, Node, SpansLines, end_of, ended, ended-cons, map-significant, Token, kind_in, plain, Place, lines_of, line_at, SpanLines, AreAscending, arith, refl, sym, ap, ◌∙◌, cond, append_assoc, ◌≡◌, ◌↔◌, ℕ, zero, suc, ◌+◌, ◌-◌, ◌<◌, ◌≤◌, Bool, true, false, List, [], ◌∷◌, ◌++◌, length, map, slice_index_or, All, AllPairs}
+use Rattle.views.proofs.Std.{min, nat_le, not, slice_index, refl, sym, ap, ◌∙◌, cond, ◌≡◌, ◌↔◌, ℕ, zero, suc, ◌+◌, ◌-◌, ◌<◌, ◌≤◌, Bool, true, false, List, [], ◌∷◌, ◌++◌, length, map, slice_index_or, All, AllPairs}
+use Rattle.views.proofs.Std.{le-leb, leb-true, append-nil, length-map, All-nil, All-cons, All-head, All-tail, All-weaker, AllPairs-cons, AllPairs-filter, arith, append_assoc}
+use Rattle.views.proofs.Common.{Invalid, Utf16, line_of, position, break_ends, PlainToken, Placed, placed, is_skipped, significant, kinds, Node, SpansLines, end_of, ended, ended-cons, map-significant, Token, kind_in, plain, Place, lines_of, line_at, SpanLines, AreAscending}
 use Rattle.views.proofs.RowsOfTokens.{position-place, min-more}
 
 -- the lines of the significant ones of tokens, of which the first starts at offset o

@@ -1,5 +1,8 @@
 -- The sums of tokens give the two places of an offset.
-use Rattle.views.proofs.Common.{arith, refl, sym, ap, subst, ◌∙◌, ◌≡◌, ℕ, zero, suc, ◌+◌, ◌<◌, ◌≤◌, ◌^◌, true, false, List, [], ◌∷◌, length, map, take, drop, count_by, slice_get, Some, None, All, IsTrue, nat_lt, if◌then◌else◌, ltb-true, ltb-false, length-take, sum_by-take-le, All-nil, All-cons, All-take, Expression, AreTokens, is_skipped, kinds, placed, significant, IsPiece-inside, FileGrammar, lexicon_of, Sums, Token, AreTokensOf, characters, is_significant, kind_in, plain, length-plain, chars-plain, plain-take, tokens_length, kinds_plain, length-kinds, tot, count-cons, length-le-characters, total_characters, total_significant, IsAround, chars}
+use Rattle.views.proofs.Std.{arith, ltb-true, ltb-false, length-take, sum_by-take-le, All-nil, All-cons, All-take}
+use Rattle.views.proofs.Std.{refl, sym, ap, subst, ◌∙◌, ◌≡◌, ℕ, zero, suc, ◌+◌, ◌<◌, ◌≤◌, ◌^◌, true, false, List, [], ◌∷◌, length, map, take, drop, count_by, slice_get, Some, None, All, IsTrue, nat_lt, if◌then◌else◌}
+use Rattle.views.proofs.Common.{Expression, AreTokens, is_skipped, kinds, placed, significant, IsPiece-inside, chars}
+use Rattle.views.proofs.Common.{FileGrammar, lexicon_of, Sums, Token, AreTokensOf, characters, is_significant, kind_in, plain, length-plain, chars-plain, plain-take, tokens_length, kinds_plain, length-kinds, tot, count-cons, length-le-characters, total_characters, total_significant, IsAround}
 use Rattle.lexer.specs.Rescans.{plain_all}
 use Rattle.views.proofs.SignificantOrder.{IsPlaceOf, places_around}
 

@@ -1,5 +1,6 @@
 -- Lists of spans of which each holds the later ones.
-use Rattle.views.proofs.Common.{dedup, append-nil, All-nil, All-head, All-weaker, All-contains, All-contains_itself, AllPairs-cons, Contains-from_dedup, Encloses, Holds, Contains-cases, arith, refl, sym, ap, subst, inl, inr, cond, ◌≡◌, ◌≢◌, ℕ, suc, ◌⊎◌, Bool, true, false, List, [], ◌∷◌, ◌++◌, All, AllPairs, Contains}
+use Rattle.views.proofs.Std.{dedup, append-nil, All-nil, All-head, All-weaker, All-contains, All-contains_itself, AllPairs-cons, Contains-from_dedup, arith, refl, sym, ap, subst, inl, inr, cond, ◌≡◌, ◌≢◌, ℕ, suc, ◌⊎◌, Bool, true, false, List, [], ◌∷◌, ◌++◌, All, AllPairs, Contains}
+use Rattle.views.proofs.Common.{Encloses, Holds, Contains-cases}
 
 pub All-each : {X : Type 0} (P : X → Type 0) (xs : List X) → ((x : X) → Contains xs x → P x) → All P xs
 All-each P xs h = All-weaker (Contains xs) P h xs (All-contains_itself xs)

@@ -1,5 +1,6 @@
 -- The nodes of a list of trees, by its parts.
-use Rattle.views.proofs.Common.{◌≡◌, ◌⊎◌, inl, inr, ◌↔◌, ◌+◌, ◌≤◌, ℕ, List, [], ◌∷◌, ◌++◌, length, refl, sym, ap, ◌∙◌, subst, arith, length-append, append-nil, Kind, Symbol, Grammar, Tree, Forest, Leaf, Branch, HasProduction, trees, yield, yields, all_kinds, StandsIn, Top, Below, Past, place_of, Node, IsNodeOf, kinds-append, nowhere, stands_after, stands_in_prefix, stands_kinds, stands_split, IsNodeFrom}
+use Rattle.views.proofs.Std.{◌≡◌, ◌⊎◌, inl, inr, ◌↔◌, ◌+◌, ◌≤◌, ℕ, List, [], ◌∷◌, ◌++◌, length, refl, sym, ap, ◌∙◌, subst, arith, length-append, append-nil}
+use Rattle.views.proofs.Common.{Kind, Symbol, Grammar, Tree, Forest, Leaf, Branch, HasProduction, trees, yield, yields, all_kinds, StandsIn, Top, Below, Past, place_of, Node, IsNodeOf, kinds-append, nowhere, stands_after, stands_in_prefix, stands_kinds, stands_split, IsNodeFrom}
 
 -- the node is this branch, which begins at this place
 abbrev pub IsBranchAt : Grammar → ℕ → ℕ → Forest → Node → Type 0

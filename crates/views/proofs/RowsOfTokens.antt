@@ -1,5 +1,6 @@
 -- The rows of tokens, listed one after another.
-use Rattle.views.proofs.Common.{IsUtf8, map-append, Encoding, position, kind_name, range_of, position-min, encodes-chars, Place, FileGrammar, Token, kind_in, in_utf8, rows_from, rows_of, Range, arith, sym, ap, subst, ◌∙◌, append_assoc, ◌≡◌, ◌<◌, ℕ, suc, ◌+◌, min, take, slice_index_or, List, [], ◌∷◌, ◌++◌, length, map, encode_utf8_all, take-suc}
+use Rattle.views.proofs.Std.{IsUtf8, map-append, arith, sym, ap, subst, ◌∙◌, append_assoc, ◌≡◌, ◌<◌, ℕ, suc, ◌+◌, min, take, slice_index_or, List, [], ◌∷◌, ◌++◌, length, map, encode_utf8_all, take-suc}
+use Rattle.views.proofs.Common.{Encoding, position, kind_name, range_of, position-min, encodes-chars, Place, FileGrammar, Token, kind_in, in_utf8, rows_from, rows_of, Range}
 use Rattle.std.specs.Str.{chars}
 
 -- what a row says, with its name as characters in place of bytes

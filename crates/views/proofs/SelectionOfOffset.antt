@@ -1,5 +1,7 @@
 -- The selection that the two places of an offset give, and that each offset has one.
-use Rattle.views.proofs.Common.{dedup, length-map, count_by-le-length, Range, Symbol, Encoding, range_of, shortened, Placed, AreTokens, kinds, Tree, HaveRoots, all_kinds, map-significant, FileGrammar, lexicon_of, Stored, AreTokensOf, is_significant, plain, Child, Cell, IsAround, IsSpanOf, inside, is_same, offsets_of, spans_all, AreRootsOf, IsSelectionOf, placed_parts, trees_of_roots, arith, refl, sym, ap, subst, ◌∙◌, ◌≡◌, ◌<◌, ◌≤◌, ◌^◌, ℕ, suc, List, ◌∷◌, length, map, take, reverse, count_by, All, PlainToken as Token}
+use Rattle.views.proofs.Std.{dedup, length-map, count_by-le-length, arith, refl, sym, ap, subst, ◌∙◌, ◌≡◌, ◌<◌, ◌≤◌, ◌^◌, ℕ, suc, List, ◌∷◌, length, map, take, reverse, count_by, All}
+use Rattle.views.proofs.Common.{Range, Symbol, Encoding, range_of, shortened, Placed, AreTokens, kinds, Tree, HaveRoots, all_kinds, map-significant, PlainToken as Token}
+use Rattle.views.proofs.Common.{FileGrammar, lexicon_of, Stored, AreTokensOf, is_significant, plain, Child, Cell, IsAround, IsSpanOf, inside, is_same, offsets_of, spans_all, AreRootsOf, IsSelectionOf, placed_parts, trees_of_roots}
 use Rattle.views.proofs.SignificantOrder.{place_of_offset, places_around}
 use Rattle.views.proofs.LocatedOffset.{few}
 use Rattle.views.proofs.SpansAround.{are_spans, shown_cover}

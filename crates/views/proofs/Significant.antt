@@ -1,5 +1,6 @@
 -- The significant tokens of a list at their places.
-use Rattle.views.proofs.Common.{arith, refl, sym, ap, subst, ◌∙◌, ◌≡◌, ℕ, zero, suc, ◌+◌, Bool, true, false, List, [], ◌∷◌, length, map, take, count_by, slice_get, Some, IsSomeAnd, All, if◌then◌else◌, length-map, All-head, All-tail, Kind, end_of, Placed, is_skipped, placed, significant, Token, characters, is_significant, kind_in, plain, significant_kinds, characters-cons, count-cons, length-kinds}
+use Rattle.views.proofs.Std.{arith, refl, sym, ap, subst, ◌∙◌, ◌≡◌, ℕ, zero, suc, ◌+◌, Bool, true, false, List, [], ◌∷◌, length, map, take, count_by, slice_get, Some, IsSomeAnd, All, if◌then◌else◌, length-map, All-head, All-tail}
+use Rattle.views.proofs.Common.{Kind, end_of, Placed, is_skipped, placed, significant, Token, characters, is_significant, kind_in, plain, significant_kinds, characters-cons, count-cons, length-kinds}
 
 -- the token is marked where its kind is skipped
 abbrev pub IsMarked : List Bool → Token → Type 0

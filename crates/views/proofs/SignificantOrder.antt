@@ -1,5 +1,6 @@
 -- The significant tokens of a text stand apart, in order, and an offset has its two places among them.
-use Rattle.views.proofs.Common.{arith, subst, inl, inr, cond, length-drop, ◌≡◌, ℕ, zero, suc, ◌+◌, ◌<◌, ◌≤◌, ◌⊎◌, ◌↔◌, Bool, true, false, not, List, [], ◌∷◌, length, take, drop, slice_index_or, All, AllPairs, cases_lt, All-nil, All-cons, All-weaker, AllPairs-cons, Invalid, Expression, Placed, AreTokens, placed, significant, is_skipped, kinds, end_of, chars-cons, IsPiece-inside, IsAround, starts_at, ends_at, chars, PlainToken as Token}
+use Rattle.views.proofs.Std.{arith, subst, inl, inr, cond, length-drop, ◌≡◌, ℕ, zero, suc, ◌+◌, ◌<◌, ◌≤◌, ◌⊎◌, ◌↔◌, Bool, true, false, not, List, [], ◌∷◌, length, take, drop, slice_index_or, All, AllPairs, cases_lt, All-nil, All-cons, All-weaker, AllPairs-cons}
+use Rattle.views.proofs.Common.{Invalid, Expression, Placed, AreTokens, placed, significant, is_skipped, kinds, end_of, chars-cons, IsPiece-inside, IsAround, starts_at, ends_at, chars, PlainToken as Token}
 use Rattle.std.proofs.lemmas.List.{get_or-map}
 use Rattle.views.proofs.Nested.{AllPairs-none}
 

@@ -1,5 +1,8 @@
 -- The offsets of the spans around an offset are those of the nodes that cover it.
-use Rattle.views.proofs.Common.{dedup, IsEquivalence, nat_eq_equiv, and_parts, and_from, and_cases, eqb-true, eqb-false, eq-eqb, cases_lt, cases_order, lt-ltb, le-ltb, get_or-map, length-map, All-head, All-tail, All-map, All-weaker, All-contains, AllPairs-cons, Contains-dedup, Contains-from_dedup, Symbol, Expression, Node, AreCovering, Covers, Encloses, shortened, span, IsNodeOf, Placed, AreTokens, placed, significant, Grammar, Tree, HaveRoots, all_kinds, Contains-first, Contains-later, Contains-cases, Contains-none, IsAround, starts_at, ends_at, offsets_of, spans_all, is_same, inside, IsSpanOf, Holds, arith, refl, sym, ap, subst, inl, inr, ◌∙◌, cond, ◌≡◌, ◌≢◌, ℕ, suc, ◌+◌, ◌-◌, ◌<◌, ◌≤◌, ◌⊎◌, ◌&&◌, ◌==◌, Bool, true, false, List, [], ◌∷◌, length, map, drop, All, AllPairs, Contains, PlainToken as Token}
+use Rattle.views.proofs.Std.{dedup, IsEquivalence, nat_eq_equiv, refl, sym, ap, subst, inl, inr, ◌∙◌, cond, ◌≡◌, ◌≢◌, ℕ, suc, ◌+◌, ◌-◌, ◌<◌, ◌≤◌, ◌⊎◌, ◌&&◌, ◌==◌, Bool, true, false, List, [], ◌∷◌, length, map, drop, All, AllPairs, Contains}
+use Rattle.views.proofs.Std.{and_parts, and_from, and_cases, eqb-true, eqb-false, eq-eqb, cases_lt, cases_order, lt-ltb, le-ltb, get_or-map, length-map, All-head, All-tail, All-map, All-weaker, All-contains, AllPairs-cons, Contains-dedup, Contains-from_dedup, arith}
+use Rattle.views.proofs.Common.{Symbol, Expression, Node, AreCovering, Covers, Encloses, shortened, span, IsNodeOf, Placed, AreTokens, placed, significant, Grammar, Tree, HaveRoots, all_kinds, Contains-first, Contains-later, Contains-cases, Contains-none, PlainToken as Token}
+use Rattle.views.proofs.Common.{IsAround, starts_at, ends_at, offsets_of, spans_all, is_same, inside, IsSpanOf, Holds}
 use Rattle.views.proofs.NodesFrom.{nodes_from_start, nodes_from_within}
 use Rattle.views.proofs.Nested.{All-each, AllPairs-none, AllPairs-head, AllPairs-tail, same_span, nested_dedup}
 use Rattle.views.proofs.BranchesAround.{IsSpanFrom, span_all, node_all, nested_all}

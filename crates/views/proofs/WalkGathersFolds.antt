@@ -1,5 +1,7 @@
 -- The walk over the nodes of a store that gathers the lines of those that fold.
-use Rattle.views.proofs.Common.{min, get_or-append_seam, map-append, get_or_append_left, All-nil, All-push, get_or_from_slice_get, slice_get_within, Kind, Symbol, Forest, Branch, HaveRoots, HasProduction, trees, yield, yields, all_kinds, left_of, StampedBranch, StampedForest, plain_all, FileGrammar, NodeId, Child, Cell, most, tree, trees_from, forest_of, IsBelow, AreBelow, all_below-more, SpanLines, AreAscending, IsFold, AreSpanned, with_own, IsNodeFrom, trees_of_roots, Siblings, ◌≡◌, ℕ, ◌+◌, ◌<◌, ◌≤◌, Bool, false, List, [], ◌∷◌, ◌++◌, length, map, slice_index_or, All, arith, refl, sym, ap, subst, subst₂, ◌∙◌, length-append, Node as Place}
+use Rattle.views.proofs.Std.{min, get_or-append_seam, map-append, get_or_append_left, All-nil, All-push, get_or_from_slice_get, slice_get_within, ◌≡◌, ℕ, ◌+◌, ◌<◌, ◌≤◌, Bool, false, List, [], ◌∷◌, ◌++◌, length, map, slice_index_or, All, arith, refl, sym, ap, subst, subst₂, ◌∙◌, length-append}
+use Rattle.views.proofs.Common.{Kind, Symbol, Forest, Branch, HaveRoots, HasProduction, trees, yield, yields, all_kinds, left_of, StampedBranch, StampedForest, plain_all, Node as Place}
+use Rattle.views.proofs.Common.{FileGrammar, NodeId, Child, Cell, most, tree, trees_from, forest_of, IsBelow, AreBelow, all_below-more, SpanLines, AreAscending, IsFold, AreSpanned, with_own, IsNodeFrom, trees_of_roots, Siblings}
 use Rattle.definitions.specs.TreeEdits.{plain}
 use Rattle.trees.specs.declared.store.Child.TheVariants.{Token, Node}
 use Rattle.views.proofs.Children.{forest_trees}

@@ -1,5 +1,7 @@
 -- The text of a tree, written from start to end.
-use Rattle.views.proofs.Common.{flat_map, codes, slice_index, IsUtf8, get_or-append_seam, append-nil, get_or_append_left, flat_map-cons, flat_map-map, All-nil, All-cons, All-append, chars-append, chars-nil, tree_texts, Stamped, StampedBranch, StampedForest, plain_all, FileGrammar, lefts, NodeId, Child, Cell, tree, tree_of, trees_from, forest_of, AreBelow, text_of, rest_text, IsBegun, arith, refl, sym, ap, subst, ◌∙◌, append_assoc, length-append, ◌≡◌, ℕ, ◌<◌, List, [], ◌∷◌, ◌++◌, length, map, All, slice_index_or}
+use Rattle.views.proofs.Std.{flat_map, codes, slice_index, IsUtf8, refl, sym, ap, subst, ◌∙◌, ◌≡◌, ℕ, ◌<◌, List, [], ◌∷◌, ◌++◌, length, map, All, slice_index_or}
+use Rattle.views.proofs.Std.{get_or-append_seam, append-nil, get_or_append_left, flat_map-cons, flat_map-map, All-nil, All-cons, All-append, chars-append, chars-nil, arith, append_assoc, length-append}
+use Rattle.views.proofs.Common.{tree_texts, Stamped, StampedBranch, StampedForest, plain_all, FileGrammar, lefts, NodeId, Child, Cell, tree, tree_of, trees_from, forest_of, AreBelow, text_of, rest_text, IsBegun}
 use Rattle.std.specs.Str.{chars}
 use Rattle.definitions.specs.TreeEdits.{plain}
 use Rattle.trees.specs.declared.store.Child.TheVariants.{Node}

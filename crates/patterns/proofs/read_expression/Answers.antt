@@ -1,4 +1,5 @@
-use Rattle.patterns.proofs.Common.{sym, ◌∙◌, rules, arith, chars, writing}
+use Rattle.patterns.proofs.Std.{sym, ◌∙◌, rules, arith, chars}
+use Rattle.patterns.proofs.Common.{writing}
 use Rattle.patterns.proofs.Readings.{is_writing, first_of, shown, shown_empty, is_pattern}
 use Rattle.patterns.proofs.read_expression.Goals as goal
 

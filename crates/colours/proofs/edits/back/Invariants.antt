@@ -1,4 +1,4 @@
-use Rattle.colours.proofs.Common.{◌-◌, ◌≤◌, ◌≡◌, length, drop}
+use Rattle.colours.proofs.Std.{◌-◌, ◌≤◌, ◌≡◌, length, drop}
 use Rattle.colours.proofs.edits.back.Given as goal
 
 abbrev pub invariant-loop-count : goal.invariant-loop-count

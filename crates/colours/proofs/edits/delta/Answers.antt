@@ -1,4 +1,4 @@
-use Rattle.colours.proofs.Common.{◌-◌, ◌%◌, ◌≡◌, List, arith, drop, inl, inr, length, length-drop, refl, take, take_all, ℕ}
+use Rattle.colours.proofs.Std.{◌-◌, ◌%◌, ◌≡◌, List, arith, drop, inl, inr, length, length-drop, refl, take, take_all, ℕ}
 use Rattle.colours.proofs.CommonEnds.{back_differs, edited, front_differs}
 use Rattle.colours.proofs.edits.delta.Goals as goal
 

@@ -1,4 +1,4 @@
-use Rattle.colours.proofs.Common.{◌-◌, ◌≤◌, ◌≡◌, length, take}
+use Rattle.colours.proofs.Std.{◌-◌, ◌≤◌, ◌≡◌, length, take}
 use Rattle.colours.proofs.edits.front.Given as goal
 
 abbrev pub invariant-loop-count : goal.invariant-loop-count

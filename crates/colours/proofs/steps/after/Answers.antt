@@ -1,4 +1,4 @@
-use Rattle.colours.proofs.Common.{◌==◌, ◌||◌, not, ◌+◌, ◌∙◌, ap}
+use Rattle.colours.proofs.Std.{◌==◌, ◌||◌, not, ◌+◌, ◌∙◌, ap}
 use Rattle.colours.proofs.NextPosition.{position-other, position-return}
 use Rattle.colours.proofs.steps.after.Goals as goal
 

@@ -1,4 +1,5 @@
-use Rattle.colours.proofs.Common.{◌≡◌, ◌∙◌, ◌∷◌, [], List, ap, subst, colour_of, Token}
+use Rattle.colours.proofs.Std.{◌≡◌, ◌∙◌, ◌∷◌, [], List, ap, subst}
+use Rattle.colours.proofs.Common.{colour_of, Token}
 use Rattle.colours.proofs.Walks.{AreColoured, ascends, coloured_all, coloured_more, coloured_whole, last_before}
 use Rattle.colours.proofs.whole.whole.Goals as goal
 

@@ -1,4 +1,4 @@
-use Rattle.colours.proofs.Common.{◌≡◌}
+use Rattle.colours.proofs.Std.{◌≡◌}
 use Rattle.colours.proofs.Walks.{AreColoured}
 use Rattle.colours.specs.Steps.{line_at}
 use Rattle.colours.proofs.whole.whole.Given as goal

@@ -1,4 +1,4 @@
-use Rattle.commands.proofs.Common.{◌≡◌, ◌∙◌, inl, inr, true, [], map, ap, subst, Result, Ok, Err, IfOk, app_of, fault_of, is_simple_and_free, HasKind, IsAmong, kind_of}
+use Rattle.commands.proofs.Std.{◌≡◌, ◌∙◌, inl, inr, true, [], map, ap, subst, Result, Ok, Err, IfOk, app_of, fault_of, is_simple_and_free, HasKind, IsAmong, kind_of}
 use Rattle.commands.proofs.Read.{none_of_refused, read_of_taken, simple_and_free}
 use Rattle.commands.proofs.command_line.asked_by.Goals as goal
 

@@ -1,4 +1,5 @@
-use Rattle.commands.proofs.Common.{◌≡◌, ◌∙◌, true, false, ap, ap₂, codes, Result, Ok, Err, IfOk, IsOkAnd, AllocError, AddsSubcommand, App, app_of, with_subcommand, app_of_fields, on_top, Command, fields_of, alone, one, two}
+use Rattle.commands.proofs.Std.{◌≡◌, ◌∙◌, true, false, ap, ap₂, codes, Result, Ok, Err, IfOk, IsOkAnd, AllocError, AddsSubcommand, App, app_of, with_subcommand, app_of_fields, on_top, Command, fields_of}
+use Rattle.commands.proofs.Common.{alone, one, two}
 use Rattle.commands.proofs.command_line.command.Goals as goal
 
 with_one_more : (r below : Result Command AllocError) (old : Command) (above b : App) → app_of old ≡ above → IfOk below (λ x. app_of x ≡ b)

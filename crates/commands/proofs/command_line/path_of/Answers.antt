@@ -1,4 +1,4 @@
-use Rattle.commands.proofs.Common.{◌∙◌, Some, ap, found_of, first_value-rows}
+use Rattle.commands.proofs.Std.{◌∙◌, Some, ap, found_of, first_value-rows}
 use Rattle.commands.proofs.command_line.path_of.Goals as goal
 
 pub returns-in_ok-from_str-in-Some : goal.returns-in_ok-from_str-in-Some

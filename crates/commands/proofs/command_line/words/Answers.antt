@@ -1,4 +1,4 @@
-use Rattle.commands.proofs.Common.{◌≡◌, ◌∙◌, [], ◌∷◌, ap, List, map, codes, string_bytes, String, All, IsUtf8, take_all, All-cons, All-nil, IfOk-weaker, IsUtf8-string_bytes}
+use Rattle.commands.proofs.Std.{◌≡◌, ◌∙◌, [], ◌∷◌, ap, List, map, codes, string_bytes, String, All, IsUtf8, take_all, All-cons, All-nil, IfOk-weaker, IsUtf8-string_bytes}
 use Rattle.commands.proofs.command_line.words.Goals as goal
 
 texts : {Z : Type 0} (strings : List (String Z)) → All IsUtf8 (map string_bytes strings)

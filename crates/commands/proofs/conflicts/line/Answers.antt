@@ -1,4 +1,4 @@
-use Rattle.commands.proofs.Common.{arith, common_steps}
+use Rattle.commands.proofs.Std.{arith, common_steps}
 use Rattle.commands.proofs.conflicts.line.Goals as goal
 
 pub returns : goal.returns

@@ -1,4 +1,5 @@
-use Rattle.commands.proofs.Common.{sym, ap, ◌∙◌, encode_utf8_all, encodes-chars, Symbol, name_bytes}
+use Rattle.commands.proofs.Std.{sym, ap, ◌∙◌, encode_utf8_all, encodes-chars}
+use Rattle.commands.proofs.Common.{Symbol, name_bytes}
 use Rattle.commands.proofs.conflicts.name_of.Goals as goal
 
 pub returns-in-Rule : goal.returns-in-Rule

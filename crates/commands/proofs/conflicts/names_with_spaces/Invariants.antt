@@ -1,4 +1,5 @@
-use Rattle.commands.proofs.Common.{◌≡◌, ◌++◌, drop, string_bytes, names_with_spaces}
+use Rattle.commands.proofs.Std.{◌≡◌, ◌++◌, drop, string_bytes}
+use Rattle.commands.proofs.Common.{names_with_spaces}
 use Rattle.commands.proofs.conflicts.names_with_spaces.Given as goal
 
 -- the names so far, and those of the symbols that are left

@@ -1,4 +1,5 @@
-use Rattle.commands.proofs.Common.{◌≡◌, ◌++◌, ◌∷◌, [], List, ℕ, map, flat_map, string_bytes, sym, ap, subst, ◌∙◌, append_assoc, codes, chars, FileGrammar, AreNotes, symbol_name, note_line, report}
+use Rattle.commands.proofs.Std.{◌≡◌, ◌++◌, ◌∷◌, [], List, ℕ, map, flat_map, string_bytes, sym, ap, subst, ◌∙◌, append_assoc, codes, chars}
+use Rattle.commands.proofs.Common.{FileGrammar, AreNotes, symbol_name, note_line, report}
 use Rattle.commands.proofs.tasks.check.Goals as goal
 
 pub loop-name-init : goal.loop-name-init

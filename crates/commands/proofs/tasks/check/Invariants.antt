@@ -1,4 +1,5 @@
-use Rattle.commands.proofs.Common.{◌≡◌, ◌++◌, List, map, string_bytes, Symbol, AreNotes, symbol_name, report}
+use Rattle.commands.proofs.Std.{◌≡◌, ◌++◌, List, map, string_bytes}
+use Rattle.commands.proofs.Common.{Symbol, AreNotes, symbol_name, report}
 use Rattle.commands.proofs.tasks.check.Given as goal
 
 -- what is printed so far, and the lines of the names that are left

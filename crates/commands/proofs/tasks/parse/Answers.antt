@@ -1,4 +1,5 @@
-use Rattle.commands.proofs.Common.{◌≡◌, ℕ, List, true, inr, subst, ap, ◌∙◌, rules, chars, IfOk-weaker, Encoding, Utf16, Outcome, IsOutcome, OpenDocument, fits}
+use Rattle.commands.proofs.Std.{◌≡◌, ℕ, List, true, inr, subst, ap, ◌∙◌, rules, chars, IfOk-weaker}
+use Rattle.commands.proofs.Common.{Encoding, Utf16, Outcome, IsOutcome, OpenDocument, fits}
 use Rattle.commands.proofs.tasks.parse.Goals as goal
 
 pub returns-in-Ok-open : goal.returns-in-Ok-open

@@ -1,4 +1,4 @@
-use Rattle.commands.proofs.Common.{◌≡◌, ◌++◌, string_bytes, sym, ap, ◌∙◌, append_assoc, codes, encodes-chars}
+use Rattle.commands.proofs.Std.{◌≡◌, ◌++◌, string_bytes, sym, ap, ◌∙◌, append_assoc, codes, encodes-chars}
 use Rattle.commands.proofs.tasks.write_note.Goals as goal
 
 pub returns : goal.returns

@@ -1,4 +1,5 @@
-use Rattle.completion.proofs.Common.{◌++◌, ◌≡◌, ◌∙◌, ◌∷◌, [], ap, arith, drop, sym, take, significant_kinds}
+use Rattle.completion.proofs.Std.{◌++◌, ◌≡◌, ◌∙◌, ◌∷◌, [], ap, arith, drop, sym, take}
+use Rattle.completion.proofs.Common.{significant_kinds}
 use Rattle.completion.proofs.Steps.{none_here, tail_here}
 use Rattle.completion.proofs.Significant.{kinds_skipped, kinds_taken}
 use Rattle.completion.proofs.before.kinds_before.Goals.{then-not-is_skipped+in_ok-push, else-not-is_skipped}

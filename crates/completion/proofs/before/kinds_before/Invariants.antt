@@ -1,4 +1,5 @@
-use Rattle.completion.proofs.Common.{◌≡◌, drop, take, significant_kinds}
+use Rattle.completion.proofs.Std.{◌≡◌, drop, take}
+use Rattle.completion.proofs.Common.{significant_kinds}
 use Rattle.completion.proofs.before.kinds_before.Given as goal
 
 abbrev pub invariant-loop : goal.invariant-loop

@@ -1,4 +1,5 @@
-use Rattle.completion.proofs.Common.{◌++◌, ◌≡◌, ◌∙◌, ap, option_to_list, subst, take, AreExpected, IsViable, significant_kinds}
+use Rattle.completion.proofs.Std.{◌++◌, ◌≡◌, ◌∙◌, ap, option_to_list, subst, take}
+use Rattle.completion.proofs.Common.{AreExpected, IsViable, significant_kinds}
 use Rattle.completion.proofs.Goings.{mended, nothing_expected, stopped, unmended}
 use Rattle.completion.proofs.Matches.{of_none, of_some, of_true}
 use Rattle.completion.proofs.Piles.{expected_there}

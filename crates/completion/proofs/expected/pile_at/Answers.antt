@@ -1,4 +1,5 @@
-use Rattle.completion.proofs.Common.{◌++◌, ◌≡◌, ◌∙◌, [], ap, option_to_list, subst, sym, take, AreStatesAfter, significant_kinds}
+use Rattle.completion.proofs.Std.{◌++◌, ◌≡◌, ◌∙◌, [], ap, option_to_list, subst, sym, take}
+use Rattle.completion.proofs.Common.{AreStatesAfter, significant_kinds}
 use Rattle.completion.proofs.Matches.{listed}
 use Rattle.completion.proofs.Piles.{found_after, tables_of_found}
 use Rattle.states.proofs.Matches.{if_some}

@@ -1,4 +1,5 @@
-use Rattle.completion.proofs.Common.{◌≡◌, ◌∙◌, ap, length, subst, sym, take, AreStatesAfter, IfOk, IfSome, significant_kinds}
+use Rattle.completion.proofs.Std.{◌≡◌, ◌∙◌, ap, length, subst, sym, take, IfOk, IfSome}
+use Rattle.completion.proofs.Common.{AreStatesAfter, significant_kinds}
 use Rattle.completion.proofs.Significant.{kinds_front}
 use Rattle.parser.specs.Parses.{IsParseOf}
 use Rattle.completion.proofs.expected.pile_in_tree.Goals as goal

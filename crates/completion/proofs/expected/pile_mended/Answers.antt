@@ -1,4 +1,5 @@
-use Rattle.completion.proofs.Common.{◌∙◌, [], subst, sym, AreStatesAfter}
+use Rattle.completion.proofs.Std.{◌∙◌, [], subst, sym}
+use Rattle.completion.proofs.Common.{AreStatesAfter}
 use Rattle.completion.proofs.Piles.{found_after, tables_of_found}
 use Rattle.completion.specs.Mended.{mended_before}
 use Rattle.completion.proofs.expected.pile_mended.Goals as goal

@@ -1,4 +1,5 @@
-use Rattle.completion.proofs.Common.{◌-◌, ◌≡◌, ◌≤◌, ◌∙◌, List, ap, arith, length, length-take, sym, take, tot, Sums, Token}
+use Rattle.completion.proofs.Std.{◌-◌, ◌≡◌, ◌≤◌, ◌∙◌, List, ap, arith, length, length-take, sym, take}
+use Rattle.completion.proofs.Common.{tot, Sums, Token}
 use Rattle.std.proofs.Common.{◌^◌}
 use Rattle.lexer.proofs.SignificantKinds.{length-kinds}
 use Rattle.lexer.proofs.Totals.{total_significant}

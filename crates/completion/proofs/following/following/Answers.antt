@@ -1,4 +1,5 @@
-use Rattle.completion.proofs.Common.{◌++◌, ◌≡◌, ◌≤◌, ◌∙◌, All, IfOk, IfOk-weaker, List, MatchOption, ap, is_skipped, kind_in, length, map, option_to_list, subst, sym, take, unskipped, AreBefore, AreExpected, AreTokens, Kind, Token, plain, significant_kinds}
+use Rattle.completion.proofs.Std.{◌++◌, ◌≡◌, ◌≤◌, ◌∙◌, All, IfOk, IfOk-weaker, List, MatchOption, ap, length, map, option_to_list, subst, sym, take}
+use Rattle.completion.proofs.Common.{is_skipped, kind_in, unskipped, AreBefore, AreExpected, AreTokens, Kind, Token, plain, significant_kinds}
 use Rattle.completion.specs.Mended.{GoOnAs}
 use Rattle.completion.proofs.Followers.{AreFollowing, kinds_before, nothing_follows, these_follow}
 use Rattle.completion.proofs.Matches.{of_none, of_some}

@@ -1,4 +1,4 @@
-use Rattle.completion.proofs.Common.{◌≡◌, ◌∙◌, ap, chars_of, is_lowercase, list_any, map-id, sym, YieldsList-end, YieldsList-from_chars}
+use Rattle.completion.proofs.Std.{◌≡◌, ◌∙◌, ap, chars_of, is_lowercase, list_any, map-id, sym, YieldsList-end, YieldsList-from_chars}
 use Rattle.completion.proofs.offers.has_small_letter.Goals as goal
 
 pub returns : goal.returns

@@ -1,4 +1,5 @@
-use Rattle.completion.proofs.Common.{◌++◌, ◌≡◌, ◌∙◌, [], ap, append-nil, flat_map, map, offer, sym}
+use Rattle.completion.proofs.Std.{◌++◌, ◌≡◌, ◌∙◌, [], ap, append-nil, flat_map, map, sym}
+use Rattle.completion.proofs.Common.{offer}
 use Rattle.completion.proofs.Looks.{of_look, of_looks}
 use Rattle.completion.proofs.offers.offers_of.Goals as goal
 

@@ -1,4 +1,5 @@
-use Rattle.completion.proofs.Common.{◌++◌, ◌≡◌, flat_map, map, offer}
+use Rattle.completion.proofs.Std.{◌++◌, ◌≡◌, flat_map, map}
+use Rattle.completion.proofs.Common.{offer}
 use Rattle.completion.proofs.Looks.{of_look}
 use Rattle.completion.proofs.offers.offers_of.Given as goal
 

@@ -1,4 +1,5 @@
-use Rattle.completion.proofs.Common.{◌≡◌, ◌∙◌, ℕ, ap, arith, cases_lt, inl, inr, slice_range, slice_set, subst, sym, IsLetter, IsPiece, Kind, typed}
+use Rattle.completion.proofs.Std.{◌≡◌, ◌∙◌, ℕ, ap, arith, cases_lt, inl, inr, slice_range, slice_set, subst, sym}
+use Rattle.completion.proofs.Common.{IsLetter, IsPiece, Kind, typed}
 use Rattle.completion.proofs.Matches.{none_after, some_after}
 use Rattle.completion.proofs.Splits.{seam, typed_between}
 use Rattle.completion.proofs.places.kind_of_part.Goals.{After-kind_before-kind}

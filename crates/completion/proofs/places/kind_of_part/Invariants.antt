@@ -1,4 +1,5 @@
-use Rattle.completion.proofs.Common.{◌+◌, ◌++◌, ◌<◌, ◌≡◌, ◌≤◌, ◌∷◌, ℕ, List, slice_range, Expression, IsAutomaton, IsPiece, Kind, typed}
+use Rattle.completion.proofs.Std.{◌+◌, ◌++◌, ◌<◌, ◌≡◌, ◌≤◌, ◌∷◌, ℕ, List, slice_range}
+use Rattle.completion.proofs.Common.{Expression, IsAutomaton, IsPiece, Kind, typed}
 use Rattle.completion.proofs.places.kind_of_part.Given as goal
 
 abbrev pub invariant-loop-letter : goal.invariant-loop-letter

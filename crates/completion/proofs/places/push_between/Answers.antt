@@ -1,4 +1,4 @@
-use Rattle.completion.proofs.Common.{◌++◌, ◌≡◌, ◌∙◌, ◌∷◌, [], ap, append_assoc, arith, drop, slice_range, sym}
+use Rattle.completion.proofs.Std.{◌++◌, ◌≡◌, ◌∙◌, ◌∷◌, [], ap, append_assoc, arith, drop, slice_range, sym}
 use Rattle.completion.proofs.Steps.{none_here, slice_more, tail_here}
 use Rattle.completion.proofs.places.push_between.Goals as goal
 

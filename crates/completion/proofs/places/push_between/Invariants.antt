@@ -1,4 +1,4 @@
-use Rattle.completion.proofs.Common.{◌++◌, ◌≡◌, drop, slice_range}
+use Rattle.completion.proofs.Std.{◌++◌, ◌≡◌, drop, slice_range}
 use Rattle.completion.proofs.places.push_between.Given as goal
 
 abbrev pub invariant-loop : goal.invariant-loop

@@ -1,4 +1,5 @@
-use Rattle.completion.proofs.Common.{◌+◌, ◌-◌, ◌<◌, ◌≤◌, ◌≡◌, ◌∙◌, ℕ, IsTrue, List, MatchOption, Some, ap, arith, false, inl, inr, length, nat_lt, slice_get, slice_range, subst, sym, take, get_none, sum_by-take-le, tokens_length, IsLetter, IsPiece, Kind, Token, characters, tot, typed}
+use Rattle.completion.proofs.Std.{◌+◌, ◌-◌, ◌<◌, ◌≤◌, ◌≡◌, ◌∙◌, ℕ, IsTrue, List, MatchOption, Some, ap, arith, false, inl, inr, length, nat_lt, slice_get, slice_range, subst, sym, take, sum_by-take-le}
+use Rattle.completion.proofs.Common.{get_none, tokens_length, IsLetter, IsPiece, Kind, Token, characters, tot, typed}
 use Rattle.completion.proofs.Matches.{none_after}
 use Rattle.completion.proofs.Splits.{Stands, characters_on, ends_nowhere, ends_with, found, found_within, sum_exact}
 use Rattle.completion.proofs.places.tokens_before.Goals.{After-locate-count}

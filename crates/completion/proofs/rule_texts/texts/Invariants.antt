@@ -1,4 +1,4 @@
-use Rattle.completion.proofs.Common.{◌<◌, ◌≡◌, ℕ, None, false, get_or, vec_len}
+use Rattle.completion.proofs.Std.{◌<◌, ◌≡◌, ℕ, None, false, get_or, vec_len}
 use Rattle.completion.specs.Texts.{IsTextOf}
 use Rattle.completion.proofs.rule_texts.texts.Given as goal
 

@@ -1,4 +1,4 @@
-use Rattle.completion.proofs.Common.{◌+◌, ◌≡◌, ◌∙◌, ◌∷◌, arith, drop, subst, sym}
+use Rattle.completion.proofs.Std.{◌+◌, ◌≡◌, ◌∙◌, ◌∷◌, arith, drop, subst, sym}
 use Rattle.completion.proofs.Steps.{IsSince, begun_behind, char_here, still_in, tail_here}
 use Rattle.completion.proofs.words.start_since.Goals.{then-not-is_in_word, else-not-is_in_word}
 use Rattle.completion.proofs.words.start_since.Goals as goal

@@ -1,4 +1,4 @@
-use Rattle.completion.proofs.Common.{◌≡◌, drop}
+use Rattle.completion.proofs.Std.{◌≡◌, drop}
 use Rattle.completion.proofs.Steps.{IsSince}
 use Rattle.completion.proofs.words.start_since.Given as goal
 

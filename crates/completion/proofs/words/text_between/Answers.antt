@@ -1,4 +1,4 @@
-use Rattle.completion.proofs.Common.{◌++◌, ◌≡◌, ◌∙◌, ◌∷◌, ap, drop, encode_utf8, encode_utf8_all, slice_range, sym}
+use Rattle.completion.proofs.Std.{◌++◌, ◌≡◌, ◌∙◌, ◌∷◌, ap, drop, encode_utf8, encode_utf8_all, slice_range, sym}
 use Rattle.completion.proofs.Steps.{encode-push, slice_more, tail_here}
 use Rattle.completion.proofs.words.text_between.Goals as goal
 

@@ -1,4 +1,4 @@
-use Rattle.completion.proofs.Common.{◌≡◌, drop, encode_utf8_all, slice_range, string_bytes}
+use Rattle.completion.proofs.Std.{◌≡◌, drop, encode_utf8_all, slice_range, string_bytes}
 use Rattle.completion.proofs.words.text_between.Given as goal
 
 abbrev pub invariant-loop : goal.invariant-loop

@@ -1,4 +1,4 @@
-use Rattle.completion.proofs.Common.{◌-◌, ◌≤◌}
+use Rattle.completion.proofs.Std.{◌-◌, ◌≤◌}
 use Rattle.completion.proofs.words.word_start.Given as goal
 
 abbrev pub invariant-wider : goal.invariant-wider

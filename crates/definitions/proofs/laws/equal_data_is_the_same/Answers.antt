@@ -1,4 +1,5 @@
-use Rattle.definitions.proofs.Common.{refl, ap, ◌≡◌, ◌↔◌, Bool, true, eq-eqb, eqb-true, Kind, Rule, Invalid, eq-value}
+use Rattle.definitions.proofs.Std.{refl, ap, ◌≡◌, ◌↔◌, Bool, true, eq-eqb, eqb-true}
+use Rattle.definitions.proofs.Common.{Kind, Rule, Invalid, eq-value}
 use Rattle.definitions.proofs.EqualSplices.{same_splices}
 use Rattle.definitions.proofs.laws.equal_data_is_the_same.Goals as goal
 

@@ -1,4 +1,5 @@
-use Rattle.dfa.proofs.Common.{◌≡◌, ◌+◌, ◌++◌, sym, ap, refl, inl, inr, IfOk-weaker, cuts, positions}
+use Rattle.dfa.proofs.Std.{◌≡◌, ◌+◌, ◌++◌, sym, ap, refl, inl, inr, IfOk-weaker}
+use Rattle.dfa.proofs.Common.{cuts, positions}
 use Rattle.dfa.proofs.Loops.{joined_at}
 use Rattle.dfa.proofs.alphabet.+cuts.Goals as goal
 

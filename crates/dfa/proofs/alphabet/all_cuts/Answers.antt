@@ -1,4 +1,5 @@
-use Rattle.dfa.proofs.Common.{◌+◌, drop, ap, all_cuts, cuts}
+use Rattle.dfa.proofs.Std.{◌+◌, drop, ap}
+use Rattle.dfa.proofs.Common.{all_cuts, cuts}
 use Rattle.dfa.proofs.JoinedLists.{one_more}
 use Rattle.dfa.proofs.Loops.{at_element}
 use Rattle.dfa.proofs.alphabet.all_cuts.Goals as goal

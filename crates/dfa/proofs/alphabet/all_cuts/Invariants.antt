@@ -1,4 +1,5 @@
-use Rattle.dfa.proofs.Common.{◌≡◌, ◌++◌, drop, All, IsCharacter, all_cuts}
+use Rattle.dfa.proofs.Std.{◌≡◌, ◌++◌, drop, All}
+use Rattle.dfa.proofs.Common.{IsCharacter, all_cuts}
 use Rattle.dfa.proofs.alphabet.all_cuts.Given as goal
 
 abbrev pub invariant-loop-pattern : goal.invariant-loop-pattern

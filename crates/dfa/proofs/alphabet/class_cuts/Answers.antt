@@ -1,4 +1,5 @@
-use Rattle.dfa.proofs.Common.{rules, ◌≡◌, ◌+◌, ◌++◌, drop, slice_index_or, at_drop_more, Interval, cut, class_cuts}
+use Rattle.dfa.proofs.Std.{rules, ◌≡◌, ◌+◌, ◌++◌, drop, slice_index_or, at_drop_more}
+use Rattle.dfa.proofs.Common.{Interval, cut, class_cuts}
 use Rattle.dfa.proofs.JoinedLists.{one_more}
 use Rattle.dfa.proofs.alphabet.class_cuts.Goals as goal
 

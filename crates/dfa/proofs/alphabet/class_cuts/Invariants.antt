@@ -1,4 +1,5 @@
-use Rattle.dfa.proofs.Common.{◌≡◌, ◌++◌, drop, All, IsCharacter, class_cuts}
+use Rattle.dfa.proofs.Std.{◌≡◌, ◌++◌, drop, All}
+use Rattle.dfa.proofs.Common.{IsCharacter, class_cuts}
 use Rattle.dfa.proofs.alphabet.class_cuts.Given as goal
 
 abbrev pub invariant-loop-i : goal.invariant-loop-i

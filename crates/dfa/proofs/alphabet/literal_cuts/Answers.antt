@@ -1,4 +1,5 @@
-use Rattle.dfa.proofs.Common.{◌+◌, ◌∷◌, drop, ap, sym, ◌∙◌, at_drop_more, cut, literal_cuts}
+use Rattle.dfa.proofs.Std.{◌+◌, ◌∷◌, drop, ap, sym, ◌∙◌, at_drop_more}
+use Rattle.dfa.proofs.Common.{cut, literal_cuts}
 use Rattle.dfa.proofs.JoinedLists.{one_more}
 use Rattle.dfa.proofs.alphabet.literal_cuts.Goals as goal
 

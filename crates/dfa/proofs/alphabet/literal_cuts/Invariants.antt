@@ -1,4 +1,5 @@
-use Rattle.dfa.proofs.Common.{◌≡◌, ◌++◌, drop, All, IsCharacter, literal_cuts}
+use Rattle.dfa.proofs.Std.{◌≡◌, ◌++◌, drop, All}
+use Rattle.dfa.proofs.Common.{IsCharacter, literal_cuts}
 use Rattle.dfa.proofs.alphabet.literal_cuts.Given as goal
 
 abbrev pub invariant-loop-c : goal.invariant-loop-c

@@ -1,4 +1,4 @@
-use Rattle.dfa.proofs.Common.{rules, of_calls, arith, sym, ℕ, nat_le, always_returns_same, prefix_len_is}
+use Rattle.dfa.proofs.Std.{rules, of_calls, arith, sym, ℕ, nat_le, always_returns_same, prefix_len_is}
 use Rattle.dfa.proofs.Numbers.{le_trans_test}
 use Rattle.dfa.proofs.alphabet.part_of.Goals as goal
 

@@ -1,4 +1,5 @@
-use Rattle.dfa.proofs.Common.{◌≡◌, arith, inl, inr, Contains, cases_lt, dedup_is, All-dedup, AllPairs-from_increasing, Contains-dedup_nat, Contains-permutation, All-permutation, IsStrictlyIncreasing-dedup, IsCharacter}
+use Rattle.dfa.proofs.Std.{◌≡◌, arith, inl, inr, Contains, cases_lt, dedup_is, All-dedup, AllPairs-from_increasing, Contains-dedup_nat, Contains-permutation, All-permutation, IsStrictlyIncreasing-dedup}
+use Rattle.dfa.proofs.Common.{IsCharacter}
 use Rattle.dfa.proofs.alphabet.starts.Goals as goal
 
 pub returns-clause-ascending : goal.returns-clause-ascending

@@ -1,4 +1,5 @@
-use Rattle.dfa.proofs.Common.{◌≡◌, ℕ, ◌<◌, length, slice_index_or, part}
+use Rattle.dfa.proofs.Std.{◌≡◌, ℕ, ◌<◌, length, slice_index_or}
+use Rattle.dfa.proofs.Common.{part}
 use Rattle.dfa.proofs.build.ascii_parts.Given as goal
 
 abbrev pub invariant-loop-code : goal.invariant-loop-code

@@ -1,4 +1,5 @@
-use Rattle.dfa.proofs.Common.{◌+◌, ◌++◌, ◌∷◌, drop, sym, ap, ◌∙◌, subst, at_drop_more, IsWellMade, all_positions, unmarked, positions}
+use Rattle.dfa.proofs.Std.{◌+◌, ◌++◌, ◌∷◌, drop, sym, ap, ◌∙◌, subst, at_drop_more}
+use Rattle.dfa.proofs.Common.{IsWellMade, all_positions, unmarked, positions}
 use Rattle.dfa.proofs.JoinedLists.{one_more, unmarked-add, all_made}
 use Rattle.dfa.proofs.build.blank_marks.Goals as goal
 

@@ -1,4 +1,5 @@
-use Rattle.dfa.proofs.Common.{◌≡◌, ◌++◌, drop, all_positions, unmarked, AllMade}
+use Rattle.dfa.proofs.Std.{◌≡◌, ◌++◌, drop}
+use Rattle.dfa.proofs.Common.{all_positions, unmarked, AllMade}
 use Rattle.dfa.proofs.build.blank_marks.Given as goal
 
 abbrev pub invariant-loop-pattern : goal.invariant-loop-pattern

@@ -1,4 +1,5 @@
-use Rattle.dfa.proofs.Common.{◌∙◌, ap, arith, length, sym, members, all_positions, mark, all_counts}
+use Rattle.dfa.proofs.Std.{◌∙◌, ap, arith, length, sym}
+use Rattle.dfa.proofs.Common.{members, all_positions, mark, all_counts}
 use Rattle.dfa.proofs.AddedRow.{rules_are, rows_none}
 use Rattle.dfa.proofs.MarkedSets.{length-unmarked, no_mark}
 use Rattle.dfa.proofs.Trees.{trees_count}

@@ -1,4 +1,5 @@
-use Rattle.dfa.proofs.Common.{◌≡◌, ◌+◌, ◌∙◌, ap, arith, drop, get_or, positions}
+use Rattle.dfa.proofs.Std.{◌≡◌, ◌+◌, ◌∙◌, ap, arith, drop, get_or}
+use Rattle.dfa.proofs.Common.{positions}
 use Rattle.dfa.proofs.Loops.{at_element}
 use Rattle.dfa.proofs.Trees.{all_trees, one_more_tree, rule_within}
 use Rattle.dfa.proofs.build.trees_of.Goals as goal

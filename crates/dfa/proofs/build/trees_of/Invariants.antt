@@ -1,4 +1,5 @@
-use Rattle.dfa.proofs.Common.{◌++◌, List, drop, Tree, AreTreesOf}
+use Rattle.dfa.proofs.Std.{◌++◌, List, drop}
+use Rattle.dfa.proofs.Common.{Tree, AreTreesOf}
 use Rattle.dfa.proofs.build.trees_of.Given as goal
 
 abbrev pub invariant-loop-pattern : goal.invariant-loop-pattern

@@ -1,4 +1,5 @@
-use Rattle.dfa.proofs.Common.{◌≡◌, ◌+◌, ◌++◌, sym, ap, ◌∙◌, refl, inl, inr, IfOk-weaker, positions, unmarked}
+use Rattle.dfa.proofs.Std.{◌≡◌, ◌+◌, ◌++◌, sym, ap, ◌∙◌, refl, inl, inr, IfOk-weaker}
+use Rattle.dfa.proofs.Common.{positions, unmarked}
 use Rattle.dfa.proofs.JoinedLists.{unmarked-add}
 use Rattle.dfa.proofs.Loops.{joined_at}
 use Rattle.dfa.proofs.positions.+blank.Goals as goal

@@ -1,4 +1,5 @@
-use Rattle.dfa.proofs.Common.{◌≡◌, ◌+◌, ◌++◌, sym, ap, inl, inr, IfOk-weaker, positions, holders}
+use Rattle.dfa.proofs.Std.{◌≡◌, ◌+◌, ◌++◌, sym, ap, inl, inr, IfOk-weaker}
+use Rattle.dfa.proofs.Common.{positions, holders}
 use Rattle.dfa.proofs.Loops.{joined_at, sum_at}
 use Rattle.dfa.proofs.positions.+holders.Goals as goal
 

@@ -1,4 +1,5 @@
-use Rattle.dfa.proofs.Common.{◌++◌, ◌∷◌, [], false, ap, ◌∙◌, append_assoc, unmarked}
+use Rattle.dfa.proofs.Std.{◌++◌, ◌∷◌, [], false, ap, ◌∙◌, append_assoc}
+use Rattle.dfa.proofs.Common.{unmarked}
 use Rattle.dfa.proofs.JoinedLists.{unmarked-more}
 use Rattle.dfa.proofs.positions.blank_literal.Goals as goal
 

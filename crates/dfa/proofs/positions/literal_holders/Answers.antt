@@ -1,4 +1,5 @@
-use Rattle.dfa.proofs.Common.{ℕ, ◌+◌, ◌++◌, drop, ap, ◌∙◌, arith, Vec, Global, literal_holders}
+use Rattle.dfa.proofs.Std.{ℕ, ◌+◌, ◌++◌, drop, ap, ◌∙◌, arith, Vec, Global}
+use Rattle.dfa.proofs.Common.{literal_holders}
 use Rattle.dfa.proofs.Loops.{at_index, held_more, other_more}
 use Rattle.dfa.proofs.positions.literal_holders.Goals as goal
 use Rattle.dfa.proofs.positions.literal_holders.Goals.{then-d-c+in_ok-push, else-d-c}

@@ -1,4 +1,5 @@
-use Rattle.dfa.proofs.Common.{◌≡◌, ◌+◌, ◌++◌, drop, literal_holders}
+use Rattle.dfa.proofs.Std.{◌≡◌, ◌+◌, ◌++◌, drop}
+use Rattle.dfa.proofs.Common.{literal_holders}
 use Rattle.dfa.proofs.positions.literal_holders.Given as goal
 
 abbrev pub invariant-loop-d : goal.invariant-loop-d

@@ -1,4 +1,5 @@
-use Rattle.dfa.proofs.Common.{◌≡◌, ◌++◌, drop, kept, marks_of}
+use Rattle.dfa.proofs.Std.{◌≡◌, ◌++◌, drop}
+use Rattle.dfa.proofs.Common.{kept, marks_of}
 use Rattle.dfa.proofs.states.common.Given as goal
 
 abbrev pub invariant-loop-p : goal.invariant-loop-p

@@ -1,4 +1,4 @@
-use Rattle.dfa.proofs.Common.{arith, common_steps}
+use Rattle.dfa.proofs.Std.{arith, common_steps}
 use Rattle.dfa.proofs.states.first_end.Goals as goal
 
 pub returns-then-ends : goal.returns-then-ends

@@ -1,4 +1,5 @@
-use Rattle.dfa.proofs.Common.{◌≡◌, ◌+◌, drop, marks_of, all_counts, first_tree_end}
+use Rattle.dfa.proofs.Std.{◌≡◌, ◌+◌, drop}
+use Rattle.dfa.proofs.Common.{marks_of, all_counts, first_tree_end}
 use Rattle.dfa.proofs.states.first_end.Given as goal
 
 abbrev pub invariant-loop-k : goal.invariant-loop-k

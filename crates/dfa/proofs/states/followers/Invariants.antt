@@ -1,4 +1,5 @@
-use Rattle.dfa.proofs.Common.{◌≡◌, ◌+◌, ◌++◌, drop, marks_of, all_counts, all_tree_next}
+use Rattle.dfa.proofs.Std.{◌≡◌, ◌+◌, ◌++◌, drop}
+use Rattle.dfa.proofs.Common.{marks_of, all_counts, all_tree_next}
 use Rattle.dfa.proofs.states.followers.Given as goal
 
 abbrev pub invariant-loop-tree : goal.invariant-loop-tree

@@ -1,4 +1,5 @@
-use Rattle.dfa.proofs.Common.{◌+◌, drop, refl, arith, all_holders, all_positions, holders}
+use Rattle.dfa.proofs.Std.{◌+◌, drop, refl, arith}
+use Rattle.dfa.proofs.Common.{all_holders, all_positions, holders}
 use Rattle.dfa.proofs.Loops.{all_done, at_element, positions_more, positions_within, rule_more}
 use Rattle.dfa.proofs.states.holders_of.Goals as goal
 

@@ -1,4 +1,5 @@
-use Rattle.dfa.proofs.Common.{◌≡◌, ◌+◌, ◌++◌, drop, all_holders, all_positions}
+use Rattle.dfa.proofs.Std.{◌≡◌, ◌+◌, ◌++◌, drop}
+use Rattle.dfa.proofs.Common.{all_holders, all_positions}
 use Rattle.dfa.proofs.states.holders_of.Given as goal
 
 abbrev pub invariant-loop-pattern : goal.invariant-loop-pattern

@@ -1,4 +1,5 @@
-use Rattle.dfa.proofs.Common.{◌≡◌, ◌++◌, drop, kept}
+use Rattle.dfa.proofs.Std.{◌≡◌, ◌++◌, drop}
+use Rattle.dfa.proofs.Common.{kept}
 use Rattle.dfa.proofs.states.marked.Given as goal
 
 abbrev pub invariant-loop-p : goal.invariant-loop-p

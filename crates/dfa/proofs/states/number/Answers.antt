@@ -1,4 +1,5 @@
-use Rattle.dfa.proofs.Common.{arith, members}
+use Rattle.dfa.proofs.Std.{arith}
+use Rattle.dfa.proofs.Common.{members}
 use Rattle.dfa.proofs.Numbered.{placed, numbered_key, placed_bound}
 use Rattle.dfa.proofs.states.number.Goals as goal
 

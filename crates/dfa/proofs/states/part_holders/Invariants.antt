@@ -1,4 +1,5 @@
-use Rattle.dfa.proofs.Common.{◌≡◌, ◌+◌, ℕ, ◌≤◌, length, slice_index_or, [], all_holders, representative}
+use Rattle.dfa.proofs.Std.{◌≡◌, ◌+◌, ℕ, ◌≤◌, length, slice_index_or, []}
+use Rattle.dfa.proofs.Common.{all_holders, representative}
 use Rattle.dfa.proofs.states.part_holders.Given as goal
 
 abbrev pub invariant-loop-c : goal.invariant-loop-c

@@ -1,4 +1,5 @@
-use Rattle.dfa.proofs.Common.{◌≡◌, ◌+◌, ◌++◌, length, false, sym, ap, ◌∙◌, subst, take-append-drop, length-append, IsLiteralTree, count}
+use Rattle.dfa.proofs.Std.{◌≡◌, ◌+◌, ◌++◌, length, false, sym, ap, ◌∙◌, subst, take-append-drop, length-append}
+use Rattle.dfa.proofs.Common.{IsLiteralTree, count}
 use Rattle.dfa.proofs.Trees.{literal_one_of, literal_parts, node}
 use Rattle.dfa.proofs.tree.+literal_tree.Goals as goal
 

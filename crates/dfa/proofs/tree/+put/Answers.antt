@@ -1,4 +1,4 @@
-use Rattle.dfa.proofs.Common.{IfOk-weaker}
+use Rattle.dfa.proofs.Std.{IfOk-weaker}
 use Rattle.dfa.proofs.Trees.{choice_tree, sequence_tree}
 use Rattle.dfa.proofs.tree.+put.Goals as goal
 

@@ -1,4 +1,4 @@
-use Rattle.dfa.proofs.Common.{◌∙◌, searched}
+use Rattle.dfa.proofs.Std.{◌∙◌, searched}
 use Rattle.dfa.proofs.MarkedSets.{found_marked}
 use Rattle.dfa.proofs.Sets.{rises_ascending}
 use Rattle.dfa.proofs.tree.has.Goals as goal

@@ -1,4 +1,4 @@
-use Rattle.dfa.proofs.Common.{Ok, Err, searched}
+use Rattle.dfa.proofs.Std.{Ok, Err, searched}
 use Rattle.dfa.proofs.MarkedSets.{meets_found, meets_next, meets_none}
 use Rattle.dfa.proofs.Sets.{rises_ascending}
 use Rattle.dfa.proofs.tree.meets.Goals as goal

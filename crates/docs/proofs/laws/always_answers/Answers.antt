@@ -1,4 +1,5 @@
-use Rattle.docs.proofs.Common.{[], subst, refl, ◌∙◌, ap, IsViable, Grammar, yield, AreMovesDecided, IsAccepted, Sets, placed_parts, LayersAnswer}
+use Rattle.docs.proofs.Std.{[], subst, refl, ◌∙◌, ap}
+use Rattle.docs.proofs.Common.{IsViable, Grammar, yield, AreMovesDecided, IsAccepted, Sets, placed_parts, LayersAnswer}
 use Rattle.docs.proofs.laws.always_answers.Goals as goal
 
 pub returns-clause-always : goal.returns-clause-always

@@ -1,4 +1,5 @@
-use Rattle.docs.proofs.Common.{◌≡◌, ◌≤◌, ◌+◌, ◌-◌, ◌∙◌, length, ap, arith, chars, edit, length-edit}
+use Rattle.docs.proofs.Std.{◌≡◌, ◌≤◌, ◌+◌, ◌-◌, ◌∙◌, length, ap, arith, chars}
+use Rattle.docs.proofs.Common.{edit, length-edit}
 use Rattle.docs.proofs.replacing.put.Goals.{After-len}
 use Rattle.docs.proofs.replacing.put.Goals as goal
 

@@ -1,4 +1,4 @@
-use Rattle.frames.proofs.Common.{arith, rules, common_steps}
+use Rattle.frames.proofs.Std.{arith, rules, common_steps}
 use Rattle.frames.proofs.decoder.answer.Goals as goal
 
 pub returns-in-Some-clause-fault : goal.returns-in-Some-clause-fault

@@ -1,4 +1,5 @@
-use Rattle.frames.proofs.Common.{List, sym, subst, refl, arith, Frame, contents, Open, Splits}
+use Rattle.frames.proofs.Std.{List, sym, subst, refl, arith}
+use Rattle.frames.proofs.Common.{Frame, contents, Open, Splits}
 use Rattle.frames.proofs.KeptBytes.{few_begin, more_begin}
 use Rattle.frames.proofs.decoder.found_in.Goals as goal
 

@@ -1,4 +1,5 @@
-use Rattle.frames.proofs.Common.{◌≡◌, ◌+◌, ◌-◌, ◌<◌, ◌≤◌, ℕ, List, [], ◌∷◌, ◌++◌, length, drop, sym, subst, ap, ◌∙◌, arith, length-drop, Some, None, map-append, Frame, NeedsMore, Announces, contents, Awaits}
+use Rattle.frames.proofs.Std.{◌≡◌, ◌+◌, ◌-◌, ◌<◌, ◌≤◌, ℕ, List, [], ◌∷◌, ◌++◌, length, drop, sym, subst, ap, ◌∙◌, arith, length-drop, Some, None, map-append}
+use Rattle.frames.proofs.Common.{Frame, NeedsMore, Announces, contents, Awaits}
 use Rattle.frames.proofs.Splits.{one_more, IsSplitTo, ends, begun, faulty, begins}
 use Rattle.frames.proofs.KeptBytes.{kept_anew, awaits_none}
 use Rattle.frames.proofs.PrefixDecides.{awaits_frame}

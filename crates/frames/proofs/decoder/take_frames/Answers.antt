@@ -1,4 +1,5 @@
-use Rattle.frames.proofs.Common.{◌≡◌, ℕ, List, ◌++◌, length, take, drop, sym, subst, ap, ◌∙◌, arith, take-append-le, take_all, contents, Splits, tail_of, Awaits, HoldsNone, IsDecoder}
+use Rattle.frames.proofs.Std.{◌≡◌, ℕ, List, ◌++◌, length, take, drop, sym, subst, ap, ◌∙◌, arith, take-append-le, take_all}
+use Rattle.frames.proofs.Common.{contents, Splits, tail_of, Awaits, HoldsNone, IsDecoder}
 use Rattle.frames.proofs.KeptBytes.{awaits_more, holds_more}
 use Rattle.frames.proofs.decoder.take_frames.Goals as goal
 

@@ -1,4 +1,5 @@
-use Rattle.frames.proofs.Common.{◌≡◌, ◌<◌, ◌∙◌, length, sym, ap, arith, length-drop, Err, err_from_is_err_and, FrameFault, header_length}
+use Rattle.frames.proofs.Std.{◌≡◌, ◌<◌, ◌∙◌, length, sym, ap, arith, length-drop, Err, err_from_is_err_and}
+use Rattle.frames.proofs.Common.{FrameFault, header_length}
 use Rattle.frames.proofs.Faults.{header_small, header_fails}
 use Rattle.frames.proofs.Lines.{line_passed, line_failed, lines_passed}
 use Rattle.frames.proofs.header.header_length.Goals as goal

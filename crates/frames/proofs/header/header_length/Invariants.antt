@@ -1,4 +1,5 @@
-use Rattle.frames.proofs.Common.{◌≡◌, length, header_length, lines_length, lines_of}
+use Rattle.frames.proofs.Std.{◌≡◌, length}
+use Rattle.frames.proofs.Common.{header_length, lines_length, lines_of}
 use Rattle.frames.proofs.header.header_length.Given as goal
 
 -- the lines ahead decide what the header part gives

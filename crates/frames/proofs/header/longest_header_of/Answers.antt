@@ -1,4 +1,4 @@
-use Rattle.frames.proofs.Common.{sym, arith, take_all}
+use Rattle.frames.proofs.Std.{sym, arith, take_all}
 use Rattle.frames.proofs.header.longest_header_of.Goals as goal
 
 pub returns-then-bytes-lt-LONGEST_HEADER : goal.returns-then-bytes-lt-LONGEST_HEADER

@@ -1,4 +1,4 @@
-use Rattle.frames.proofs.Common.{◌≡◌, length, arith, ap, ◌∙◌, min, length-take}
+use Rattle.frames.proofs.Std.{◌≡◌, length, arith, ap, ◌∙◌, min, length-take}
 use Rattle.frames.proofs.header.start_of.Goals as goal
 
 pub returns-in-Ok-clause-within : goal.returns-in-Ok-clause-within

@@ -1,4 +1,4 @@
-use Rattle.frames.proofs.Common.{refl, ◌∙◌, trim_ascii_is}
+use Rattle.frames.proofs.Std.{refl, ◌∙◌, trim_ascii_is}
 use Rattle.frames.proofs.Trimmed.{trimmed_is}
 use Rattle.frames.proofs.header.trim.Goals as goal
 

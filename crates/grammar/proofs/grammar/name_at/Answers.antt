@@ -1,4 +1,4 @@
-use Rattle.grammar.proofs.Common.{◌≡◌, sym, ℕ, ◌≤◌, List, [], length, slice_index_or, get_or_past}
+use Rattle.grammar.proofs.Std.{◌≡◌, sym, ℕ, ◌≤◌, List, [], length, slice_index_or, get_or_past}
 use Rattle.std.specs.Str.{chars}
 use Rattle.grammar.proofs.grammar.name_at.Goals as goal
 

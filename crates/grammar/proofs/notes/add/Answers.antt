@@ -1,4 +1,5 @@
-use Rattle.grammar.proofs.Common.{◌∙◌, sym, subst, [], ◌∷◌, ◌++◌, AreNotes}
+use Rattle.grammar.proofs.Std.{◌∙◌, sym, subst, [], ◌∷◌, ◌++◌}
+use Rattle.grammar.proofs.Common.{AreNotes}
 use Rattle.grammar.proofs.NotesOfUses.{shown_last, skipped_last, used_last}
 use Rattle.grammar.proofs.Numbered.{true_not_false}
 use Rattle.grammar.proofs.notes.add.Goals as goal

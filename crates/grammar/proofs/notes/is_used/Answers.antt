@@ -1,4 +1,5 @@
-use Rattle.grammar.proofs.Common.{◌∙◌, sym, subst, IsUsed}
+use Rattle.grammar.proofs.Std.{◌∙◌, sym, subst}
+use Rattle.grammar.proofs.Common.{IsUsed}
 use Rattle.grammar.proofs.NotesOfUses.{rule_used}
 use Rattle.grammar.proofs.notes.is_used.Goals as goal
 

@@ -1,4 +1,5 @@
-use Rattle.grammar.proofs.Common.{sym, subst, refl, take, [], arith, take_all, AreNotes, none}
+use Rattle.grammar.proofs.Std.{sym, subst, refl, take, [], arith, take_all}
+use Rattle.grammar.proofs.Common.{AreNotes, none}
 use Rattle.grammar.proofs.NotesOfUses.{one_more}
 use Rattle.grammar.proofs.notes.notes.Goals as goal
 

@@ -1,4 +1,5 @@
-use Rattle.grammar.proofs.Common.{◌≡◌, take, FileGrammar, AreNotes, AreUsed}
+use Rattle.grammar.proofs.Std.{◌≡◌, take}
+use Rattle.grammar.proofs.Common.{FileGrammar, AreNotes, AreUsed}
 use Rattle.grammar.proofs.notes.notes.Given as goal
 
 abbrev pub invariant-loop-symbol : goal.invariant-loop-symbol

@@ -1,4 +1,4 @@
-use Rattle.grammar.proofs.Common.{arith, common_steps}
+use Rattle.grammar.proofs.Std.{arith, common_steps}
 use Rattle.grammar.proofs.numbers.copy_names.Goals as goal
 
 pub loop-name-preserved : goal.loop-name-preserved

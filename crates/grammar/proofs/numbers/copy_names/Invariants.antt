@@ -1,4 +1,5 @@
-use Rattle.grammar.proofs.Common.{◌≡◌, take, map, chars, texts}
+use Rattle.grammar.proofs.Std.{◌≡◌, take, map, chars}
+use Rattle.grammar.proofs.Common.{texts}
 use Rattle.grammar.proofs.numbers.copy_names.Given as goal
 
 abbrev pub invariant-loop-name : goal.invariant-loop-name

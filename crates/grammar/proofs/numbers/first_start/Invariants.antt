@@ -1,4 +1,5 @@
-use Rattle.grammar.proofs.Common.{◌≡◌, drop, starts, first_of, lines_view}
+use Rattle.grammar.proofs.Std.{◌≡◌, drop}
+use Rattle.grammar.proofs.Common.{starts, first_of, lines_view}
 use Rattle.grammar.proofs.numbers.first_start.Given as goal
 
 abbrev pub invariant-loop-statement : goal.invariant-loop-statement

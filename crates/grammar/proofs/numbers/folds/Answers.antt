@@ -1,4 +1,5 @@
-use Rattle.grammar.proofs.Common.{◌∙◌, ap, arith, map, is_fold, texts, lines_view, common_steps}
+use Rattle.grammar.proofs.Std.{◌∙◌, ap, arith, map, common_steps}
+use Rattle.grammar.proofs.Common.{is_fold, texts, lines_view}
 use Rattle.std.proofs.Common.{take_all}
 use Rattle.grammar.proofs.numbers.folds.Goals as goal
 

@@ -1,4 +1,5 @@
-use Rattle.grammar.proofs.Common.{◌≡◌, take, map, is_fold, texts, lines_view}
+use Rattle.grammar.proofs.Std.{◌≡◌, take, map}
+use Rattle.grammar.proofs.Common.{is_fold, texts, lines_view}
 use Rattle.grammar.proofs.numbers.folds.Given as goal
 
 abbrev pub invariant-loop-name : goal.invariant-loop-name

@@ -1,4 +1,5 @@
-use Rattle.grammar.proofs.Common.{tests, ◌∙◌, sym, YieldsList-from_slice, any_from_yields_List, folds_name, statement_of, list_any-map}
+use Rattle.grammar.proofs.Std.{tests, ◌∙◌, sym, YieldsList-from_slice, any_from_yields_List}
+use Rattle.grammar.proofs.Common.{folds_name, statement_of, list_any-map}
 use Rattle.std.proofs.Common.{rules}
 use Rattle.grammar.proofs.numbers.is_fold.Goals as goal
 

@@ -1,4 +1,5 @@
-use Rattle.grammar.proofs.Common.{◌∙◌, ◌++◌, [], ap, sym, take, map, arith, cons_option, productions, production_of, lines_view, productions_more, common_steps}
+use Rattle.grammar.proofs.Std.{◌∙◌, ◌++◌, [], ap, sym, take, map, arith, cons_option, common_steps}
+use Rattle.grammar.proofs.Common.{productions, production_of, lines_view, productions_more}
 use Rattle.grammar.proofs.numbers.productions.Goals as goal
 
 pub loop-statement-preserved : goal.loop-statement-preserved

@@ -1,4 +1,5 @@
-use Rattle.grammar.proofs.Common.{◌≡◌, take, map, productions, production_of, lines_view}
+use Rattle.grammar.proofs.Std.{◌≡◌, take, map}
+use Rattle.grammar.proofs.Common.{productions, production_of, lines_view}
 use Rattle.grammar.proofs.numbers.productions.Given as goal
 
 abbrev pub invariant-loop-statement : goal.invariant-loop-statement

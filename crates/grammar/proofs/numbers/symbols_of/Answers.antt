@@ -1,4 +1,4 @@
-use Rattle.grammar.proofs.Common.{arith, common_steps}
+use Rattle.grammar.proofs.Std.{arith, common_steps}
 use Rattle.grammar.proofs.numbers.symbols_of.Goals as goal
 
 pub returns : goal.returns

@@ -1,4 +1,5 @@
-use Rattle.grammar.proofs.Common.{◌≡◌, take, map, symbol_of, texts}
+use Rattle.grammar.proofs.Std.{◌≡◌, take, map}
+use Rattle.grammar.proofs.Common.{symbol_of, texts}
 use Rattle.grammar.proofs.numbers.symbols_of.Given as goal
 
 abbrev pub invariant-loop-name : goal.invariant-loop-name

@@ -1,4 +1,5 @@
-use Rattle.grammar.proofs.Common.{take, IsClosed}
+use Rattle.grammar.proofs.Std.{take}
+use Rattle.grammar.proofs.Common.{IsClosed}
 use Rattle.grammar.proofs.productive.next.Given as goal
 
 abbrev pub invariant-loop-production : goal.invariant-loop-production

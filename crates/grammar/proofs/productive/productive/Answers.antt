@@ -1,4 +1,5 @@
-use Rattle.grammar.proofs.Common.{◌<◌, ◌∙◌, Bool, true, List, length, subst, arith, length-set, IsClosed, IsNext, common_steps}
+use Rattle.grammar.proofs.Std.{◌<◌, ◌∙◌, Bool, true, List, length, subst, arith, length-set, common_steps}
+use Rattle.grammar.proofs.Common.{IsClosed, IsNext}
 use Rattle.grammar.proofs.NonterminalMarks.{complete, sound_more, next_within}
 use Rattle.grammar.proofs.productive.productive.Goals as goal
 

@@ -1,4 +1,5 @@
-use Rattle.grammar.proofs.Common.{◌≡◌, length, AreSound}
+use Rattle.grammar.proofs.Std.{◌≡◌, length}
+use Rattle.grammar.proofs.Common.{AreSound}
 use Rattle.grammar.proofs.NonterminalMarks.{unmarked}
 use Rattle.grammar.proofs.productive.productive.Given as goal
 

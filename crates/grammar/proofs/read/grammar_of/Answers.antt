@@ -1,4 +1,5 @@
-use Rattle.grammar.proofs.Common.{◌∙◌, sym, lines_view, grammar_with}
+use Rattle.grammar.proofs.Std.{◌∙◌, sym}
+use Rattle.grammar.proofs.Common.{lines_view, grammar_with}
 use Rattle.grammar.proofs.FaultlessFile.{same_parts, made, start_within, all_within, are_notes}
 use Rattle.grammar.proofs.read.grammar_of.Goals as goal
 

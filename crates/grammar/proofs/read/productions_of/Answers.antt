@@ -1,4 +1,5 @@
-use Rattle.grammar.proofs.Common.{IfSome_then, IsUnproductive, Reports, err_from_is_err_and, lines_view, ◌∙◌}
+use Rattle.grammar.proofs.Std.{IfSome_then, err_from_is_err_and, ◌∙◌}
+use Rattle.grammar.proofs.Common.{IsUnproductive, Reports, lines_view}
 use Rattle.grammar.proofs.FaultlessFile.{productions_are, below, productive, unproductive_is}
 use Rattle.grammar.proofs.read.productions_of.Goals as goal
 

@@ -1,4 +1,5 @@
-use Rattle.grammar.proofs.Common.{◌≡◌, take, map, chars, rule_line}
+use Rattle.grammar.proofs.Std.{◌≡◌, take, map, chars}
+use Rattle.grammar.proofs.Common.{rule_line}
 use Rattle.grammar.proofs.read.rule_names.Given as goal
 
 abbrev pub invariant-loop-rule : goal.invariant-loop-rule

@@ -1,4 +1,5 @@
-use Rattle.grammar.proofs.Common.{◌≡◌, take, map, rule_line}
+use Rattle.grammar.proofs.Std.{◌≡◌, take, map}
+use Rattle.grammar.proofs.Common.{rule_line}
 use Rattle.grammar.proofs.read.skips.Given as goal
 
 abbrev pub invariant-loop-rule : goal.invariant-loop-rule

@@ -1,4 +1,5 @@
-use Rattle.grammar.proofs.Common.{refl, sym, take, drop, ◌+◌, lines_view, statement_of, said_split, arith, common_steps}
+use Rattle.grammar.proofs.Std.{refl, sym, take, drop, ◌+◌, arith, common_steps}
+use Rattle.grammar.proofs.Common.{lines_view, statement_of, said_split}
 use Rattle.grammar.proofs.unproductive.first_line_of.Goals as goal
 
 pub returns-then-is_production_of : goal.returns-then-is_production_of

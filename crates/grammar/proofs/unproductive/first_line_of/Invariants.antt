@@ -1,4 +1,5 @@
-use Rattle.grammar.proofs.Common.{◌≡◌, false, take, list_any, is_production_of, lines_view}
+use Rattle.grammar.proofs.Std.{◌≡◌, false, take, list_any}
+use Rattle.grammar.proofs.Common.{is_production_of, lines_view}
 use Rattle.grammar.proofs.unproductive.first_line_of.Given as goal
 
 abbrev pub invariant-loop-statement : goal.invariant-loop-statement

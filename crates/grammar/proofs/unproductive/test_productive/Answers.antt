@@ -1,4 +1,5 @@
-use Rattle.grammar.proofs.Common.{◌<◌, Bool, List, length, ap, subst, arith, IsFirstUnmarked, Unproductive, lines_view}
+use Rattle.grammar.proofs.Std.{◌<◌, Bool, List, length, ap, subst, arith}
+use Rattle.grammar.proofs.Common.{IsFirstUnmarked, Unproductive, lines_view}
 use Rattle.grammar.proofs.Lefts.{named_has_production, text_at}
 use Rattle.grammar.proofs.NonterminalMarks.{first_unproductive}
 use Rattle.grammar.proofs.unproductive.test_productive.Goals as goal

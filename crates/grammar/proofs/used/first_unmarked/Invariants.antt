@@ -1,4 +1,5 @@
-use Rattle.grammar.proofs.Common.{◌≡◌, true, take, are_marked}
+use Rattle.grammar.proofs.Std.{◌≡◌, true, take}
+use Rattle.grammar.proofs.Common.{are_marked}
 use Rattle.grammar.proofs.used.first_unmarked.Given as goal
 
 abbrev pub invariant-loop-symbol : goal.invariant-loop-symbol

@@ -1,4 +1,5 @@
-use Rattle.grammar.proofs.Common.{◌≡◌, ◌∙◌, arith, ◌<◌, Bool, true, false, List, sym, ap, length, set, subst, replicate, length-set, length-replicate, IsSpread, IsReached, AreOnlyUsed, get_or-set_same}
+use Rattle.grammar.proofs.Std.{◌≡◌, ◌∙◌, arith, ◌<◌, Bool, true, false, List, sym, ap, length, set, subst, replicate, length-set, length-replicate, get_or-set_same}
+use Rattle.grammar.proofs.Common.{IsSpread, IsReached, AreOnlyUsed}
 use Rattle.grammar.proofs.NonterminalMarks.{fewer_unmarked}
 use Rattle.grammar.proofs.UsedMarks.{used_more, all_used, reached_within, start_used, still_marked}
 use Rattle.grammar.proofs.used.mark_used.Goals as goal

@@ -1,4 +1,5 @@
-use Rattle.grammar.proofs.Common.{◌≡◌, true, false, length, slice_index_or, AreOnlyUsed}
+use Rattle.grammar.proofs.Std.{◌≡◌, true, false, length, slice_index_or}
+use Rattle.grammar.proofs.Common.{AreOnlyUsed}
 use Rattle.grammar.proofs.NonterminalMarks.{unmarked}
 use Rattle.grammar.proofs.used.mark_used.Given as goal
 

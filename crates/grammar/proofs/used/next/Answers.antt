@@ -1,4 +1,4 @@
-use Rattle.grammar.proofs.Common.{refl, slice_get_read}
+use Rattle.grammar.proofs.Std.{refl, slice_get_read}
 use Rattle.grammar.proofs.UsedMarks.{spread_more}
 use Rattle.grammar.proofs.used.next.Goals as goal
 

@@ -1,4 +1,5 @@
-use Rattle.grammar.proofs.Common.{take, IsSpread}
+use Rattle.grammar.proofs.Std.{take}
+use Rattle.grammar.proofs.Common.{IsSpread}
 use Rattle.grammar.proofs.used.next.Given as goal
 
 abbrev pub invariant-loop-production : goal.invariant-loop-production

@@ -1,4 +1,5 @@
-use Rattle.grammar_file.proofs.Common.{err_from_is_err_and, lines_view, ◌∙◌, ap}
+use Rattle.grammar_file.proofs.Std.{err_from_is_err_and, ◌∙◌, ap}
+use Rattle.grammar_file.proofs.Common.{lines_view}
 use Rattle.grammar_file.proofs.Files.{reference_fault}
 use Rattle.grammar_file.proofs.file.fill.Goals as goal
 

@@ -1,4 +1,4 @@
-use Rattle.grammar_file.proofs.Common.{map_from_collect, YieldsList-from_lines}
+use Rattle.grammar_file.proofs.Std.{map_from_collect, YieldsList-from_lines}
 use Rattle.grammar_file.proofs.file.lines_of.Goals as goal
 
 pub returns : goal.returns

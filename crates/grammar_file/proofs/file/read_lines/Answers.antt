@@ -1,4 +1,5 @@
-use Rattle.grammar_file.proofs.Common.{rules, Some, None, statements_in, too_large, first_line, texts}
+use Rattle.grammar_file.proofs.Std.{rules, Some, None}
+use Rattle.grammar_file.proofs.Common.{statements_in, too_large, first_line, texts}
 use Rattle.grammar_file.proofs.Files.{version_is, headed, statements_are, line_fault, no_start_fault, is_whole}
 use Rattle.grammar_file.proofs.file.read_lines.Goals as goal
 

@@ -1,4 +1,5 @@
-use Rattle.grammar_file.proofs.Common.{◌≡◌, take, with_marked, texts}
+use Rattle.grammar_file.proofs.Std.{◌≡◌, take}
+use Rattle.grammar_file.proofs.Common.{with_marked, texts}
 use Rattle.grammar_file.proofs.names.add_marked.Given as goal
 
 abbrev pub invariant-loop-word : goal.invariant-loop-word

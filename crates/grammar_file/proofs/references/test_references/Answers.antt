@@ -1,4 +1,5 @@
-use Rattle.grammar_file.proofs.Common.{IfSome_then, lines_view}
+use Rattle.grammar_file.proofs.Std.{IfSome_then}
+use Rattle.grammar_file.proofs.Common.{lines_view}
 use Rattle.grammar_file.proofs.Splits.{referents_more, first_reference_fault}
 use Rattle.grammar_file.proofs.references.test_references.Goals as goal
 

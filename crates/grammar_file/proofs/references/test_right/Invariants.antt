@@ -1,4 +1,5 @@
-use Rattle.grammar_file.proofs.Common.{◌≡◌, drop, List, map, plain, Statement, right_fault, texts, AreNames}
+use Rattle.grammar_file.proofs.Std.{◌≡◌, drop, List, map}
+use Rattle.grammar_file.proofs.Common.{plain, Statement, right_fault, texts, AreNames}
 use Rattle.grammar_file.proofs.references.test_right.Given as goal
 
 abbrev pub invariant-loop-word : goal.invariant-loop-word

@@ -1,4 +1,5 @@
-use Rattle.grammar_file.proofs.Common.{◌∙◌, ◌++◌, ◌∷◌, [], sym, subst, bytes_eq, insert_entry-new, AreNumbers}
+use Rattle.grammar_file.proofs.Std.{◌∙◌, ◌++◌, ◌∷◌, [], sym, subst, bytes_eq, insert_entry-new}
+use Rattle.grammar_file.proofs.Common.{AreNumbers}
 use Rattle.grammar_file.proofs.NameLookUps.{numbers-new, numbers-again, none_from}
 use Rattle.grammar_file.proofs.rules.add_number.Goals as goal
 

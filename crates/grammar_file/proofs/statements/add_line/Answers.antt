@@ -1,4 +1,4 @@
-use Rattle.grammar_file.proofs.Common.{arith, common_steps}
+use Rattle.grammar_file.proofs.Std.{arith, common_steps}
 use Rattle.grammar_file.proofs.statements.add_line.Goals as goal
 
 pub returns : goal.returns

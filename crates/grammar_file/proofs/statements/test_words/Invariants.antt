@@ -1,4 +1,5 @@
-use Rattle.grammar_file.proofs.Common.{◌≡◌, drop, map, plain, reserved, texts}
+use Rattle.grammar_file.proofs.Std.{◌≡◌, drop, map}
+use Rattle.grammar_file.proofs.Common.{plain, reserved, texts}
 use Rattle.grammar_file.proofs.statements.test_words.Given as goal
 
 abbrev pub invariant-loop-word : goal.invariant-loop-word

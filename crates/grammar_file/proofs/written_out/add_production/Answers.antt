@@ -1,4 +1,5 @@
-use Rattle.grammar_file.proofs.Common.{sym, subst, on_ok_weaker, Production, texts, lines_view, AreNames}
+use Rattle.grammar_file.proofs.Std.{sym, subst, on_ok_weaker}
+use Rattle.grammar_file.proofs.Common.{Production, texts, lines_view, AreNames}
 use Rattle.grammar_file.proofs.Lines.{names-step}
 use Rattle.grammar_file.proofs.written_out.add_production.Goals as goal
 

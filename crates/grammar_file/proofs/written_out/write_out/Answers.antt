@@ -1,4 +1,5 @@
-use Rattle.grammar_file.proofs.Common.{◌≡◌, ◌++◌, ◌∙◌, ap, arith, rules, take_all, flat_map, added, marked, texts, lines_view, common_steps}
+use Rattle.grammar_file.proofs.Std.{◌≡◌, ◌++◌, ◌∙◌, ap, arith, rules, take_all, flat_map, common_steps}
+use Rattle.grammar_file.proofs.Common.{added, marked, texts, lines_view}
 use Rattle.grammar_file.proofs.WritingOut.{added_more}
 use Rattle.grammar_file.proofs.written_out.write_out.Goals as goal
 

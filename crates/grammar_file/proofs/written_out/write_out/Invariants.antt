@@ -1,4 +1,5 @@
-use Rattle.grammar_file.proofs.Common.{◌≡◌, ◌+◌, ◌*◌, ◌≤◌, ◌++◌, take, flat_map, added, texts, lines_view, AreNames}
+use Rattle.grammar_file.proofs.Std.{◌≡◌, ◌+◌, ◌*◌, ◌≤◌, ◌++◌, take, flat_map}
+use Rattle.grammar_file.proofs.Common.{added, texts, lines_view, AreNames}
 use Rattle.grammar_file.proofs.written_out.write_out.Given as goal
 
 abbrev pub invariant-loop-word : goal.invariant-loop-word

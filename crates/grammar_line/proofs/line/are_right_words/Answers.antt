@@ -1,4 +1,5 @@
-use Rattle.grammar_line.proofs.Common.{rules, tests, ◌∙◌, sym, YieldsList-from_slice, all_from_yields_List, list_all-map, is_right_word}
+use Rattle.grammar_line.proofs.Std.{rules, tests, ◌∙◌, sym, YieldsList-from_slice, all_from_yields_List, list_all-map}
+use Rattle.grammar_line.proofs.Common.{is_right_word}
 use Rattle.grammar_line.proofs.line.are_right_words.Goals as goal
 
 pub returns : goal.returns

@@ -1,4 +1,5 @@
-use Rattle.grammar_line.proofs.Common.{◌≡◌, ◌++◌, take, filter, is_filled, texts}
+use Rattle.grammar_line.proofs.Std.{◌≡◌, ◌++◌, take, filter}
+use Rattle.grammar_line.proofs.Common.{is_filled, texts}
 use Rattle.grammar_line.proofs.words.add_words.Given as goal
 
 abbrev pub invariant-loop-word : goal.invariant-loop-word

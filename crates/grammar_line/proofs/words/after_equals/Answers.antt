@@ -1,4 +1,5 @@
-use Rattle.grammar_line.proofs.Common.{◌≡◌, ◌==◌, ◌∙◌, ap, arith, common_steps, after_first, trim_start, trim_end}
+use Rattle.grammar_line.proofs.Std.{◌≡◌, ◌==◌, ◌∙◌, ap, arith, common_steps, after_first}
+use Rattle.grammar_line.proofs.Common.{trim_start, trim_end}
 use Rattle.grammar_line.proofs.Blanks.{starts_trimmed, ends_trimmed}
 use Rattle.grammar_line.proofs.words.after_equals.Goals as goal
 use Rattle.grammar_line.proofs.words.after_equals.Goals.{in-Some, in-None}

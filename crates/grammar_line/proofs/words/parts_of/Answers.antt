@@ -1,4 +1,4 @@
-use Rattle.grammar_line.proofs.Common.{map_from_collect, YieldsList-from_str_split}
+use Rattle.grammar_line.proofs.Std.{map_from_collect, YieldsList-from_str_split}
 use Rattle.grammar_line.proofs.words.parts_of.Goals as goal
 
 pub returns : goal.returns

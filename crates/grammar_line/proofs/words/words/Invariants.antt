@@ -1,4 +1,5 @@
-use Rattle.grammar_line.proofs.Common.{◌≡◌, take, filter, ◌==◌, flat_map, slice_split, is_filled, texts}
+use Rattle.grammar_line.proofs.Std.{◌≡◌, take, filter, ◌==◌, flat_map, slice_split}
+use Rattle.grammar_line.proofs.Common.{is_filled, texts}
 use Rattle.grammar_line.proofs.words.words.Given as goal
 
 abbrev pub invariant-loop-part : goal.invariant-loop-part

@@ -1,4 +1,5 @@
-use Rattle.ide.proofs.Common.{map, message_view}
+use Rattle.ide.proofs.Std.{map}
+use Rattle.ide.proofs.Common.{message_view}
 use Rattle.ide.specs.Written.{AreRemarks}
 use Rattle.ide.proofs.ide.all_sent.Given as goal
 

@@ -1,4 +1,5 @@
-use Rattle.ide.proofs.Common.{◌≡◌, arith, ℕ, List, [], take, subst, sym, Option, Err, Result, Consumes, Keeps, err_from_is_err_and, Tail, GoesOn, RunFault, FileGrammar, IdeState, Session, Served, ServedInPart, IsCutShort, state_of, ShownData}
+use Rattle.ide.proofs.Std.{◌≡◌, arith, ℕ, List, [], take, subst, sym, Option, Err, Result, Consumes, Keeps, err_from_is_err_and}
+use Rattle.ide.proofs.Common.{Tail, GoesOn, RunFault, FileGrammar, IdeState, Session, Served, ServedInPart, IsCutShort, state_of, ShownData}
 use Rattle.server.proofs.Bytes.{is_open}
 use Rattle.ide.proofs.Loop.{IsReady, Fed, at_start, fed, read_fails, input_ends, exits, stream_fails, answering_fails, feeding_fails}
 use Rattle.ide.proofs.CutSessions.{part_kept, served_kept}

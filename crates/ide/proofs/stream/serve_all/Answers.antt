@@ -1,4 +1,5 @@
-use Rattle.ide.proofs.Common.{◌++◌, ℕ, List, [], ◌∷◌, subst, sym, ap, ◌∙◌, append_assoc, Option, Some, None, err_from_is_err_and, into_iter_items, contents, cancels, later_view, RunFault, Served, ServedInPart, IsCutShort, state_of}
+use Rattle.ide.proofs.Std.{◌++◌, ℕ, List, [], ◌∷◌, subst, sym, ap, ◌∙◌, append_assoc, Option, Some, None, err_from_is_err_and, into_iter_items}
+use Rattle.ide.proofs.Common.{contents, cancels, later_view, RunFault, Served, ServedInPart, IsCutShort, state_of}
 use Rattle.server.proofs.Bytes.{contents_more, contents_all}
 use Rattle.ide.proofs.InTurn.{later_more, one_more, part_more}
 use Rattle.ide.proofs.CutSessions.{cut_off, part_nothing}

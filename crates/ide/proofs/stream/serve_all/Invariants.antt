@@ -1,4 +1,5 @@
-use Rattle.ide.proofs.Common.{◌≡◌, ◌++◌, [], drop, None, into_iter_items, contents, cancels, later_view, Served, state_of}
+use Rattle.ide.proofs.Std.{◌≡◌, ◌++◌, [], drop, None, into_iter_items}
+use Rattle.ide.proofs.Common.{contents, cancels, later_view, Served, state_of}
 use Rattle.ide.proofs.stream.serve_all.Given as goal
 
 abbrev pub invariant-loop-frame : goal.invariant-loop-frame

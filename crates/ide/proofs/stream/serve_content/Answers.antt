@@ -1,4 +1,5 @@
-use Rattle.ide.proofs.Common.{[], ◌∷◌, map, subst, sym, err_from_is_err_and, later_view, message_view, RunFault, ServedInPart, IsCutShort, comes, state_of, refl}
+use Rattle.ide.proofs.Std.{[], ◌∷◌, map, subst, sym, err_from_is_err_and, refl}
+use Rattle.ide.proofs.Common.{later_view, message_view, RunFault, ServedInPart, IsCutShort, comes, state_of}
 use Rattle.ide.proofs.Runs.{one_run}
 use Rattle.ide.proofs.CutSessions.{cut_off, part_nothing}
 use Rattle.ide.proofs.stream.serve_content.Goals as goal

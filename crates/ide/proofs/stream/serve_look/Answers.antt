@@ -1,4 +1,5 @@
-use Rattle.ide.proofs.Common.{[], ◌∷◌, map, refl, option_map, message_view, looks, state_of, None}
+use Rattle.ide.proofs.Std.{[], ◌∷◌, map, refl, option_map, None}
+use Rattle.ide.proofs.Common.{message_view, looks, state_of}
 use Rattle.std.proofs.lemmas.Result.{on_err_weaker, on_ok_weaker}
 use Rattle.server.proofs.Bytes.{on_err}
 use Rattle.ide.specs.Servers.{written_view}

@@ -1,4 +1,5 @@
-use Rattle.ide.proofs.Common.{[], err_from_is_err_and, contents, state_of, subst, sym, RunFault, IsCutShort, cancels, ◌++◌}
+use Rattle.ide.proofs.Std.{[], err_from_is_err_and, subst, sym, ◌++◌}
+use Rattle.ide.proofs.Common.{contents, state_of, RunFault, IsCutShort, cancels}
 use Rattle.ide.proofs.CutSessions.{cut_off, looked_then, part_later, part_on}
 use Rattle.ide.proofs.stream.serve_piece.Goals as goal
 

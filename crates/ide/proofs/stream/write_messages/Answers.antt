@@ -1,4 +1,5 @@
-use Rattle.ide.proofs.Common.{◌≡◌, ◌+◌, ◌<◌, ℕ, ◌++◌, List, [], ◌∷◌, map, length, get_or, take, drop, subst, sym, ap, ◌∙◌, append-nil, Sent, Appends, take_more, map-append, take-append-drop, frame, compact_text, message_view, message_data, bytes_of, AppendsPrefix}
+use Rattle.ide.proofs.Std.{◌≡◌, ◌+◌, ◌<◌, ℕ, ◌++◌, List, [], ◌∷◌, map, length, get_or, take, drop, subst, sym, ap, ◌∙◌, append-nil, Appends, take_more, map-append, take-append-drop}
+use Rattle.ide.proofs.Common.{Sent, frame, compact_text, message_view, message_data, bytes_of, AppendsPrefix}
 use Rattle.server.proofs.Bytes.{appends_then, on_err, prefix_all, prefix_of_more, prefix_after}
 use Rattle.ide.proofs.Runs.{bytes_then}
 use Rattle.ide.proofs.stream.write_messages.Goals as goal

@@ -1,4 +1,5 @@
-use Rattle.ide.proofs.Common.{◌≡◌, take, map, Appends, message_view, bytes_of}
+use Rattle.ide.proofs.Std.{◌≡◌, take, map, Appends}
+use Rattle.ide.proofs.Common.{message_view, bytes_of}
 use Rattle.ide.proofs.stream.write_messages.Given as goal
 
 abbrev pub invariant-loop-message : goal.invariant-loop-message

@@ -1,4 +1,5 @@
-use Rattle.item_sets.proofs.Common.{length, slice_index_or, subst, ◌∙◌, Contains-get_or, IfOk-weaker, IsSetOf, AreCalledFor, HaveBeginnings}
+use Rattle.item_sets.proofs.Std.{length, slice_index_or, subst, ◌∙◌, Contains-get_or, IfOk-weaker}
+use Rattle.item_sets.proofs.Common.{IsSetOf, AreCalledFor, HaveBeginnings}
 use Rattle.item_sets.proofs.InRange.{has_all, only_in, in_known}
 use Rattle.item_sets.proofs.Valid.{set_of}
 use Rattle.item_sets.proofs.closure.close.Goals as goal

@@ -1,4 +1,5 @@
-use Rattle.item_sets.proofs.Common.{◌<◌, length, arith, sym, ◌∙◌, eqb-true, eqb-false, Rule, follows_nothing, follows_first}
+use Rattle.item_sets.proofs.Std.{◌<◌, length, arith, sym, ◌∙◌, eqb-true, eqb-false}
+use Rattle.item_sets.proofs.Common.{Rule, follows_nothing, follows_first}
 use Rattle.item_sets.proofs.closure.only_lookahead.Goals as goal
 
 pub returns-then-is_empty : goal.returns-then-is_empty

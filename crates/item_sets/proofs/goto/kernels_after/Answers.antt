@@ -1,4 +1,5 @@
-use Rattle.item_sets.proofs.Common.{rules, ◌≡◌, ◌<◌, ◌∷◌, ◌++◌, [], Some, None, length, slice_index_or, slice_set, length-set, ap, sym, subst, ◌∙◌, arith, IfSome, get_or_default, first, Item, IsKnown, after_dot, step, ShiftsUpTo, number, symbol_of}
+use Rattle.item_sets.proofs.Std.{rules, ◌≡◌, ◌<◌, ◌∷◌, ◌++◌, [], Some, None, length, slice_index_or, slice_set, length-set, ap, sym, subst, ◌∙◌, arith, IfSome, get_or_default}
+use Rattle.item_sets.proofs.Common.{first, Item, IsKnown, after_dot, step, ShiftsUpTo, number, symbol_of}
 use Rattle.item_sets.proofs.KernelsAfter.{kernels_more, kernels_same, shifts_none, kernel_after}
 use Rattle.item_sets.proofs.goto.kernels_after.Goals as goal
 use Rattle.item_sets.proofs.goto.kernels_after.Goals.{in-Some+in_ok-add, in_default}

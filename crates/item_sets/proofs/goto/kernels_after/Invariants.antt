@@ -1,4 +1,5 @@
-use Rattle.item_sets.proofs.Common.{◌≡◌, ◌+◌, ◌<◌, ℕ, [], length, slice_index_or, ShiftsUpTo, symbol_of}
+use Rattle.item_sets.proofs.Std.{◌≡◌, ◌+◌, ◌<◌, ℕ, [], length, slice_index_or}
+use Rattle.item_sets.proofs.Common.{ShiftsUpTo, symbol_of}
 use Rattle.item_sets.proofs.goto.kernels_after.Given as goal
 
 abbrev pub invariant-loop-item : goal.invariant-loop-item

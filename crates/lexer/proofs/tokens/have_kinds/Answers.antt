@@ -1,4 +1,5 @@
-use Rattle.lexer.proofs.Common.{arith, sym, ap, ◌≡◌, ◌∙◌, ◌-◌, ◌+◌, take, length, length-drop, same_kinds, significant_kinds}
+use Rattle.lexer.proofs.Std.{arith, sym, ap, ◌≡◌, ◌∙◌, ◌-◌, ◌+◌, take, length, length-drop}
+use Rattle.lexer.proofs.Common.{same_kinds, significant_kinds}
 use Rattle.lexer.proofs.Walks.{tail_of_drop, take_one_more}
 use Rattle.lexer.proofs.SignificantKinds.{none_left}
 use Rattle.lexer.proofs.tokens.have_kinds.Goals as goal

@@ -1,4 +1,5 @@
-use Rattle.lexer.proofs.Common.{◌≡◌, ◌-◌, drop, slice_range, take, same_kinds, significant_kinds}
+use Rattle.lexer.proofs.Std.{◌≡◌, ◌-◌, drop, slice_range, take}
+use Rattle.lexer.proofs.Common.{same_kinds, significant_kinds}
 use Rattle.lexer.proofs.tokens.have_kinds.Given as goal
 
 abbrev pub invariant-loop : goal.invariant-loop

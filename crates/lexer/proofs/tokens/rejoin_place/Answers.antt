@@ -1,4 +1,5 @@
-use Rattle.lexer.proofs.Common.{arith, sym, subst, ◌≡◌, ◌+◌, ◌-◌, IsPassed, horizon}
+use Rattle.lexer.proofs.Std.{arith, sym, subst, ◌≡◌, ◌+◌, ◌-◌}
+use Rattle.lexer.proofs.Common.{IsPassed, horizon}
 use Rattle.lexer.proofs.Boundaries.{not_after, rejoined_is}
 use Rattle.lexer.proofs.tokens.rejoin_place.Goals as goal
 

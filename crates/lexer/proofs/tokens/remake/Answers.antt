@@ -1,4 +1,5 @@
-use Rattle.lexer.proofs.Common.{arith, refl, ap, subst, ◌≡◌, ◌∙◌, ◌+◌, length, take, false, true, IsWithinReach, is_rejoined, characters, plain_all, prefix_end, horizon}
+use Rattle.lexer.proofs.Std.{arith, refl, ap, subst, ◌≡◌, ◌∙◌, ◌+◌, length, take, false, true}
+use Rattle.lexer.proofs.Common.{IsWithinReach, is_rejoined, characters, plain_all, prefix_end, horizon}
 use Rattle.lexer.proofs.Scans.{made_none, made_more, characters-more, lead_one}
 use Rattle.lexer.proofs.Remakes.{removed_fits, prefix_inside, prefix_passed, end_rejoins, end_moved, needed, earlier_one}
 use Rattle.lexer.proofs.Walks.{passed_later}

@@ -1,4 +1,5 @@
-use Rattle.lexer.proofs.Common.{Leads, is_rejoined, characters, plain_all, prefix_end, AreMade, IsPassed, horizon, ℕ, ◌≡◌, ◌≤◌, ◌<◌, ◌+◌, ◌-◌, length, drop, take, false}
+use Rattle.lexer.proofs.Std.{ℕ, ◌≡◌, ◌≤◌, ◌<◌, ◌+◌, ◌-◌, length, drop, take, false}
+use Rattle.lexer.proofs.Common.{Leads, is_rejoined, characters, plain_all, prefix_end, AreMade, IsPassed, horizon}
 use Rattle.lexer.proofs.tokens.remake.Given as goal
 
 abbrev pub invariant-loop-at : goal.invariant-loop-at

@@ -1,4 +1,5 @@
-use Rattle.lexer.proofs.Common.{refl, sym, ap, ◌≡◌, ◌∙◌, ℕ, true, false, List, [], take, count_by, slice_range, Kind, same_kinds, is_significant, significant_kinds, change, Token}
+use Rattle.lexer.proofs.Std.{refl, sym, ap, ◌≡◌, ◌∙◌, ℕ, true, false, List, [], take, count_by, slice_range}
+use Rattle.lexer.proofs.Common.{Kind, same_kinds, is_significant, significant_kinds, change, Token}
 use Rattle.lexer.proofs.tokens.splice_of.Goals as goal
 
 same_change : (xs : List Token) (kept_before to from : ℕ) (kinds : List Kind) → from ≡ count_by is_significant (take kept_before xs)

@@ -1,4 +1,5 @@
-use Rattle.parser.proofs.Common.{ap, sym, subst, ◌∙◌, length, arith, AreBelow, all_trees, nodes, sizes}
+use Rattle.parser.proofs.Std.{ap, sym, subst, ◌∙◌, length, arith}
+use Rattle.parser.proofs.Common.{AreBelow, all_trees, nodes, sizes}
 use Rattle.parser.proofs.Renaming.{as_many, ids_below, ids_sizes, renamed_below, renamed_trees}
 use Rattle.parser.proofs.compact.keep.Goals as goal
 

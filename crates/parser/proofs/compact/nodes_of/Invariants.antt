@@ -1,4 +1,5 @@
-use Rattle.parser.proofs.Common.{◌≡◌, ◌++◌, drop, node_ids}
+use Rattle.parser.proofs.Std.{◌≡◌, ◌++◌, drop}
+use Rattle.parser.proofs.Common.{node_ids}
 use Rattle.parser.proofs.compact.nodes_of.Given as goal
 
 abbrev pub invariant-loop-child : goal.invariant-loop-child

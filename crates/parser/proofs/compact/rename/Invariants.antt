@@ -1,4 +1,5 @@
-use Rattle.parser.proofs.Common.{◌≡◌, ◌≤◌, ◌++◌, drop, length, take, node_ids, renamed}
+use Rattle.parser.proofs.Std.{◌≡◌, ◌≤◌, ◌++◌, drop, length, take}
+use Rattle.parser.proofs.Common.{node_ids, renamed}
 use Rattle.parser.proofs.compact.rename.Given as goal
 
 abbrev pub invariant-loop-child : goal.invariant-loop-child

@@ -1,4 +1,5 @@
-use Rattle.parser.proofs.Common.{◌≡◌, List, [], ◌∷◌, ◌++◌, length, sym, ap, ◌∙◌, subst, arith, append-nil, Kind, all_kinds, yield, plain, Node, Token, AreBelow, tree, all_below-more, plain_of, nil_from_length}
+use Rattle.parser.proofs.Std.{◌≡◌, List, [], ◌∷◌, ◌++◌, length, sym, ap, ◌∙◌, subst, arith, append-nil, nil_from_length}
+use Rattle.parser.proofs.Common.{Kind, all_kinds, yield, plain, Node, Token, AreBelow, tree, all_below-more, plain_of}
 use Rattle.parser.proofs.Inputs.{none_counted}
 use Rattle.parser.proofs.SecondKind.{into_node, past_empty}
 use Rattle.parser.proofs.input.first_kind.Goals.{then-tokens-gt0, else-tokens-gt0}

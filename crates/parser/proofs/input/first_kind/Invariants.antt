@@ -1,4 +1,5 @@
-use Rattle.parser.proofs.Common.{◌≡◌, List, ◌++◌, length, Kind, all_kinds, AreBelow, plain_of}
+use Rattle.parser.proofs.Std.{◌≡◌, List, ◌++◌, length}
+use Rattle.parser.proofs.Common.{Kind, all_kinds, AreBelow, plain_of}
 use Rattle.parser.proofs.input.first_kind.Given as goal
 
 abbrev pub invariant-edge : goal.invariant-edge

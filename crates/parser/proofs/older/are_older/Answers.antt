@@ -1,4 +1,5 @@
-use Rattle.parser.proofs.Common.{◌≡◌, ◌<◌, ◌+◌, ◌∷◌, ◌++◌, ℕ, [], length, sym, ap, ◌∙◌, subst, arith, StampedBranch, StampedForest, StampedIn, StampedLeaf, StampedTop, stamped_trees, AreBelow, all_trees, forest_of, trees_from, Node, Token, AreChildren, plain_of, ComeFrom, AreOlder}
+use Rattle.parser.proofs.Std.{◌≡◌, ◌<◌, ◌+◌, ◌∷◌, ◌++◌, ℕ, [], length, sym, ap, ◌∙◌, subst, arith}
+use Rattle.parser.proofs.Common.{StampedBranch, StampedForest, StampedIn, StampedLeaf, StampedTop, stamped_trees, AreBelow, all_trees, forest_of, trees_from, Node, Token, AreChildren, plain_of, ComeFrom, AreOlder}
 use Rattle.parser.proofs.WhereBranchesComeFrom.{come_after, come_on, older_node, older_token, opened_came}
 use Rattle.parser.proofs.Cuts.{opened_below, opened_lighter}
 use Rattle.parser.proofs.LeftEdge.{weight}

@@ -1,4 +1,5 @@
-use Rattle.parser.proofs.Common.{ℕ, length, AreBelow, all_trees, plain_of, ComeFrom, AreOlder}
+use Rattle.parser.proofs.Std.{ℕ, length}
+use Rattle.parser.proofs.Common.{AreBelow, all_trees, plain_of, ComeFrom, AreOlder}
 use Rattle.parser.proofs.LeftEdge.{weight}
 use Rattle.parser.proofs.older.are_older.Given as goal
 

@@ -1,4 +1,5 @@
-use Rattle.parser.proofs.Common.{refl, below-at}
+use Rattle.parser.proofs.Std.{refl}
+use Rattle.parser.proofs.Common.{below-at}
 use Rattle.parser.proofs.parse.branches_of.Goals as goal
 
 pub size_of-requires : goal.size_of-requires

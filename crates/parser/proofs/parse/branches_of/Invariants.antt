@@ -1,4 +1,5 @@
-use Rattle.parser.proofs.Common.{◌≡◌, ◌+◌, ◌≤◌, min, drop, all_branches, most, plain_of}
+use Rattle.parser.proofs.Std.{◌≡◌, ◌+◌, ◌≤◌, min, drop}
+use Rattle.parser.proofs.Common.{all_branches, most, plain_of}
 use Rattle.parser.proofs.parse.branches_of.Given as goal
 
 -- what is counted, with what is left to count, is the whole

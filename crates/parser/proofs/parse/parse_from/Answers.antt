@@ -1,4 +1,5 @@
-use Rattle.parser.proofs.Common.{sym, subst, ap, arith, ◌∙◌, [], ◌∷◌, length, input_of, all_trees, all_branches, plain_of, IsStop, verdict_of, CameFrom, SoFar}
+use Rattle.parser.proofs.Std.{sym, subst, ap, arith, ◌∙◌, [], ◌∷◌, length}
+use Rattle.parser.proofs.Common.{input_of, all_trees, all_branches, plain_of, IsStop, verdict_of, CameFrom, SoFar}
 use Rattle.parser.proofs.WhereBranchesComeFrom.{came_begins}
 use Rattle.parser.proofs.Running.{begun}
 use Rattle.parser.proofs.parse.parse_from.Goals as goal

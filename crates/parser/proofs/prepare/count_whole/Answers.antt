@@ -1,4 +1,5 @@
-use Rattle.parser.proofs.Common.{◌≡◌, ◌+◌, ◌<◌, ℕ, List, length, take, get_or, refl, sym, ap, ◌∙◌, subst, arith, take_more, place_of, Rule, Child, Token, Cell, below-at, kinds_in, plain_of}
+use Rattle.parser.proofs.Std.{◌≡◌, ◌+◌, ◌<◌, ℕ, List, length, take, get_or, refl, sym, ap, ◌∙◌, subst, arith, take_more}
+use Rattle.parser.proofs.Common.{place_of, Rule, Child, Token, Cell, below-at, kinds_in, plain_of}
 use Rattle.parser.proofs.Cuts.{counted, counted_in, place_push}
 use Rattle.parser.proofs.prepare.count_whole.Goals as goal
 

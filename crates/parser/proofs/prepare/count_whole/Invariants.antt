@@ -1,4 +1,5 @@
-use Rattle.parser.proofs.Common.{◌≡◌, ◌+◌, take, place_of, plain_of}
+use Rattle.parser.proofs.Std.{◌≡◌, ◌+◌, take}
+use Rattle.parser.proofs.Common.{place_of, plain_of}
 use Rattle.parser.proofs.prepare.count_whole.Given as goal
 
 abbrev pub invariant-loop-child : goal.invariant-loop-child

@@ -1,4 +1,5 @@
-use Rattle.parser.proofs.Common.{zero, ◌≡◌, ◌≢◌, ℕ, ◌+◌, ◌-◌, ◌<◌, suc, ◌≤◌, ◌∷◌, length-append, List, [], ◌++◌, length, take, drop, map, sym, ap, ◌∙◌, subst, arith, rules, length-drop, append-nil, take_all, all_kinds, yield, plain, IsPrepared, place_of, AreBelow, Cell, all_trees, tree, MoveFrom, plain_of, input_of, plain_splice, Child, Token}
+use Rattle.parser.proofs.Std.{zero, ◌≡◌, ◌≢◌, ℕ, ◌+◌, ◌-◌, ◌<◌, suc, ◌≤◌, ◌∷◌, length-append, List, [], ◌++◌, length, take, drop, map, sym, ap, ◌∙◌, subst, arith, rules, length-drop, append-nil, take_all}
+use Rattle.parser.proofs.Common.{all_kinds, yield, plain, IsPrepared, place_of, AreBelow, Cell, all_trees, tree, MoveFrom, plain_of, input_of, plain_splice, Child, Token}
 use Rattle.parser.proofs.Reductions.{below-drop}
 use Rattle.parser.proofs.Cuts.{cut_below, cut_kinds}
 use Rattle.parser.proofs.Prepared.{prepared_same, unmoved}

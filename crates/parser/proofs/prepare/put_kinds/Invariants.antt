@@ -1,4 +1,5 @@
-use Rattle.parser.proofs.Common.{◌≡◌, ◌++◌, ◌-◌, length, drop, map, Token}
+use Rattle.parser.proofs.Std.{◌≡◌, ◌++◌, ◌-◌, length, drop, map}
+use Rattle.parser.proofs.Common.{Token}
 use Rattle.parser.proofs.prepare.put_kinds.Given as goal
 
 abbrev pub invariant-kinds : goal.invariant-kinds

@@ -1,4 +1,5 @@
-use Rattle.parser.proofs.Common.{◌≡◌, ◌<◌, ◌+◌, ◌≤◌, length-append, min, ◌++◌, ◌∷◌, [], List, length, sym, ap, ◌∙◌, subst, arith, append_assoc, append-nil, place_of, all_kinds, yield, plain, Child, Node, AreBelow, most, tree, kinds_in, AreChildren, IsSplitAt, Here, Used_up, Whole, plain_of}
+use Rattle.parser.proofs.Std.{◌≡◌, ◌<◌, ◌+◌, ◌≤◌, length-append, min, ◌++◌, ◌∷◌, [], List, length, sym, ap, ◌∙◌, subst, arith, append_assoc, append-nil}
+use Rattle.parser.proofs.Common.{place_of, all_kinds, yield, plain, Child, Node, AreBelow, most, tree, kinds_in, AreChildren, IsSplitAt, Here, Used_up, Whole, plain_of}
 use Rattle.parser.specs.Cuts.{Opened}
 use Rattle.parser.proofs.LeftEdge.{weight}
 use Rattle.parser.proofs.Cuts.{counted, not_counted, opened_below, opened_kinds, opened_lighter, place_push, taken_lighter}

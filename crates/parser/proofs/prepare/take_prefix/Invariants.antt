@@ -1,4 +1,5 @@
-use Rattle.parser.proofs.Common.{◌≡◌, ◌+◌, ◌≤◌, ◌++◌, List, length, place_of, Child, AreBelow, most, IsSplitAt, plain_of}
+use Rattle.parser.proofs.Std.{◌≡◌, ◌+◌, ◌≤◌, ◌++◌, List, length}
+use Rattle.parser.proofs.Common.{place_of, Child, AreBelow, most, IsSplitAt, plain_of}
 use Rattle.parser.proofs.LeftEdge.{weight}
 use Rattle.parser.proofs.prepare.take_prefix.Given as goal
 

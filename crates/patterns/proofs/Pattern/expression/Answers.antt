@@ -1,4 +1,5 @@
-use Rattle.patterns.proofs.Common.{matches_empty, both_ways}
+use Rattle.patterns.proofs.Std.{both_ways}
+use Rattle.patterns.proofs.Common.{matches_empty}
 use Rattle.patterns.proofs.WellMade.{well_made, empty_tested}
 use Rattle.patterns.proofs.Pattern.expression.Goals as goal
 

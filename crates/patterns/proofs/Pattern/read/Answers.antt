@@ -1,4 +1,5 @@
-use Rattle.patterns.proofs.Common.{◌≡◌, ℕ, List, subst, chars, PatternFault, IsFault, Refusal, Fault, Reports}
+use Rattle.patterns.proofs.Std.{◌≡◌, ℕ, List, subst, chars}
+use Rattle.patterns.proofs.Common.{PatternFault, IsFault, Refusal, Fault, Reports}
 use Rattle.patterns.proofs.Runs.{refused}
 use Rattle.patterns.proofs.Pattern.read.Goals as goal
 

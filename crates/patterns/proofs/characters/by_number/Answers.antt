@@ -1,4 +1,4 @@
-use Rattle.patterns.proofs.Common.{ℕ, ◌<◌, ◌≤◌, ◌^◌, arith, lit<, pow-le-pow_right, common_steps}
+use Rattle.patterns.proofs.Std.{ℕ, ◌<◌, ◌≤◌, ◌^◌, arith, lit<, pow-le-pow_right, common_steps}
 use Rattle.patterns.proofs.characters.by_number.Goals as goal
 
 below : (k v : ℕ) → k ≤ 5 → v < 16 ^ k → v < 1048576

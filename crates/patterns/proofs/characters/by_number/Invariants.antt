@@ -1,4 +1,5 @@
-use Rattle.patterns.proofs.Common.{◌≡◌, ◌+◌, ◌<◌, ◌≤◌, ◌^◌, drop, braced, digits}
+use Rattle.patterns.proofs.Std.{◌≡◌, ◌+◌, ◌<◌, ◌≤◌, ◌^◌, drop}
+use Rattle.patterns.proofs.Common.{braced, digits}
 use Rattle.patterns.proofs.characters.by_number.Given as goal
 
 abbrev pub invariant-loop-count : goal.invariant-loop-count

@@ -1,4 +1,4 @@
-use Rattle.patterns.proofs.Common.{arith, common_steps}
+use Rattle.patterns.proofs.Std.{arith, common_steps}
 use Rattle.patterns.proofs.characters.character_at.Goals as goal
 
 pub returns-in-Some-clause-written : goal.returns-in-Some-clause-written

@@ -1,4 +1,4 @@
-use Rattle.patterns.proofs.Common.{arith, common_steps}
+use Rattle.patterns.proofs.Std.{arith, common_steps}
 use Rattle.patterns.proofs.characters.escape_at.Goals as goal
 
 pub returns-in_default : goal.returns-in_default

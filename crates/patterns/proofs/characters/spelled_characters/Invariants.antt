@@ -1,4 +1,5 @@
-use Rattle.patterns.proofs.Common.{◌≡◌, ◌-◌, ◌≤◌, ◌++◌, length, drop, written, writing}
+use Rattle.patterns.proofs.Std.{◌≡◌, ◌-◌, ◌≤◌, ◌++◌, length, drop}
+use Rattle.patterns.proofs.Common.{written, writing}
 use Rattle.patterns.proofs.characters.spelled_characters.Given as goal
 
 abbrev pub invariant-loop-place : goal.invariant-loop-place

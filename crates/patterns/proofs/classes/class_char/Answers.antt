@@ -1,4 +1,5 @@
-use Rattle.patterns.proofs.Common.{◌∷◌, refl, ◌∙◌, ap, arith, Plain, Escaped, writing}
+use Rattle.patterns.proofs.Std.{◌∷◌, refl, ◌∙◌, ap, arith}
+use Rattle.patterns.proofs.Common.{Plain, Escaped, writing}
 use Rattle.patterns.proofs.classes.class_char.Goals as goal
 
 pub returns-in-Some-Sign-default : goal.returns-in-Some-Sign-default

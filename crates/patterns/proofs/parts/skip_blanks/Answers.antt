@@ -1,4 +1,5 @@
-use Rattle.patterns.proofs.Common.{arith, writing}
+use Rattle.patterns.proofs.Std.{arith}
+use Rattle.patterns.proofs.Common.{writing}
 use Rattle.patterns.proofs.Blanks.{no_blanks, one_more_blank}
 use Rattle.patterns.proofs.parts.skip_blanks.Goals as goal
 

@@ -1,4 +1,5 @@
-use Rattle.patterns.proofs.Common.{◌≤◌, length, writing, IsBlanks}
+use Rattle.patterns.proofs.Std.{◌≤◌, length}
+use Rattle.patterns.proofs.Common.{writing, IsBlanks}
 use Rattle.patterns.proofs.parts.skip_blanks.Given as goal
 
 abbrev pub invariant-loop-after : goal.invariant-loop-after

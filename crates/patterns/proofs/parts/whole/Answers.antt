@@ -1,4 +1,5 @@
-use Rattle.patterns.proofs.Common.{◌∙◌, ap, Outside, ARepetition, fault_from}
+use Rattle.patterns.proofs.Std.{◌∙◌, ap}
+use Rattle.patterns.proofs.Common.{Outside, ARepetition, fault_from}
 use Rattle.patterns.proofs.Repeats.{read_whole}
 use Rattle.patterns.proofs.parts.whole.Goals as goal
 

@@ -1,4 +1,5 @@
-use Rattle.patterns.proofs.Common.{refl, ap, arith, star, plus, optional, one_atom, writing, is_sound}
+use Rattle.patterns.proofs.Std.{refl, ap, arith}
+use Rattle.patterns.proofs.Common.{star, plus, optional, one_atom, writing, is_sound}
 use Rattle.patterns.proofs.Repeats.{signed, no_sign}
 use Rattle.patterns.proofs.parts.with_repetition.Goals as goal
 

@@ -1,4 +1,4 @@
-use Rattle.pieces.proofs.Common.{ap, ◌∙◌, ◌≡◌, ◌++◌, string_bytes, chars, IsUtf8-append, chars-append}
+use Rattle.pieces.proofs.Std.{ap, ◌∙◌, ◌≡◌, ◌++◌, string_bytes, chars, IsUtf8-append, chars-append}
 use Rattle.pieces.proofs.piece.join_three.Goals as goal
 
 pub returns : goal.returns

@@ -1,4 +1,5 @@
-use Rattle.pieces.proofs.Common.{sym, ◌≡◌, ◌∙◌, List, ℕ, [], ◌∷◌, rules, Empty, units, Utf8, sums_of}
+use Rattle.pieces.proofs.Std.{sym, ◌≡◌, ◌∙◌, List, ℕ, [], ◌∷◌, rules}
+use Rattle.pieces.proofs.Common.{Empty, units, Utf8, sums_of}
 use Rattle.pieces.proofs.Joins.{units-nil}
 use Rattle.pieces.proofs.places.bytes_in.Goals as goal
 

@@ -1,4 +1,5 @@
-use Rattle.pieces.proofs.Common.{◌+◌, List, ℕ, take, drop, sym, ap, ◌∙◌, ◌≡◌, length, arith, encode_utf8_all, units, Utf8, take-append-drop, encodes-chars}
+use Rattle.pieces.proofs.Std.{◌+◌, List, ℕ, take, drop, sym, ap, ◌∙◌, ◌≡◌, length, arith, encode_utf8_all, take-append-drop, encodes-chars}
+use Rattle.pieces.proofs.Common.{units, Utf8}
 use Rattle.pieces.proofs.CutAt.{one_byte, stepped}
 use Rattle.pieces.proofs.Joins.{units-append, units-bytes, units-chars}
 use Rattle.pieces.proofs.places.prefix_bytes.Goals as goal

@@ -1,4 +1,5 @@
-use Rattle.pieces.proofs.Common.{sym, ap, ◌∙◌, take, drop, chars, units, Utf8}
+use Rattle.pieces.proofs.Std.{sym, ap, ◌∙◌, take, drop, chars}
+use Rattle.pieces.proofs.Common.{units, Utf8}
 use Rattle.pieces.proofs.Borders.{border}
 use Rattle.pieces.proofs.places.split.Goals as goal
 

@@ -1,4 +1,5 @@
-use Rattle.pieces.proofs.Common.{arith, sym, ap, ◌∙◌, ◌≡◌, ◌+◌, ◌≤◌, ℕ, List, [], ◌∷◌, ◌++◌, take, slice_index, take_more, units, Utf8, sums_of, most, joined, line_sums, ascii_units, sums_laws}
+use Rattle.pieces.proofs.Std.{arith, sym, ap, ◌∙◌, ◌≡◌, ◌+◌, ◌≤◌, ℕ, List, [], ◌∷◌, ◌++◌, take, slice_index, take_more}
+use Rattle.pieces.proofs.Common.{units, Utf8, sums_of, most, joined, line_sums, ascii_units, sums_laws}
 use Rattle.pieces.proofs.Joins.{sums_of-more}
 use Rattle.pieces.proofs.Lines.{ascii-more, ascii-fits}
 use Rattle.pieces.proofs.sums.of_ascii.Goals as goal

@@ -1,4 +1,5 @@
-use Rattle.pieces.proofs.Common.{◌≡◌, ◌≤◌, take, sums_of, joined, line_sums, ascii_units}
+use Rattle.pieces.proofs.Std.{◌≡◌, ◌≤◌, take}
+use Rattle.pieces.proofs.Common.{sums_of, joined, line_sums, ascii_units}
 use Rattle.pieces.proofs.sums.of_ascii.Given as goal
 
 abbrev pub invariant-loop-byte : goal.invariant-loop-byte

@@ -1,4 +1,5 @@
-use Rattle.pieces.proofs.Common.{◌≡◌, ◌≤◌, ℕ, List, [], ◌∷◌, ◌++◌, arith, refl, sym, ap, subst, ◌∙◌, chars, YieldsList-from_chars, chars-IsAscii, units, Utf8, sums_of, joined, line_sums, most, sums_laws}
+use Rattle.pieces.proofs.Std.{◌≡◌, ◌≤◌, ℕ, List, [], ◌∷◌, ◌++◌, arith, refl, sym, ap, subst, ◌∙◌, chars, YieldsList-from_chars, chars-IsAscii}
+use Rattle.pieces.proofs.Common.{units, Utf8, sums_of, joined, line_sums, most, sums_laws}
 use Rattle.pieces.proofs.Joins.{sums_of-more, units-chars}
 use Rattle.pieces.proofs.Lines.{joined-line-more, line-room}
 use Rattle.pieces.proofs.KnownPrefix.{few_prefix}

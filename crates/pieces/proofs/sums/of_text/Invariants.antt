@@ -1,4 +1,5 @@
-use Rattle.pieces.proofs.Common.{◌≡◌, ◌≤◌, units, Utf8, sums_of, joined, line_sums, most}
+use Rattle.pieces.proofs.Std.{◌≡◌, ◌≤◌}
+use Rattle.pieces.proofs.Common.{units, Utf8, sums_of, joined, line_sums, most}
 use Rattle.pieces.proofs.sums.of_text.Given as goal
 
 abbrev pub invariant-loop-c : goal.invariant-loop-c

@@ -1,4 +1,5 @@
-use Rattle.productions.proofs.Common.{rules, ◌≡◌, ◌<◌, ◌∷◌, ◌++◌, [], length, slice_index_or, slice_set, length-set, sym, subst, ap, ◌∙◌, get_or_default, left_of, right_of}
+use Rattle.productions.proofs.Std.{rules, ◌≡◌, ◌<◌, ◌∷◌, ◌++◌, [], length, slice_index_or, slice_set, length-set, sym, subst, ap, ◌∙◌, get_or_default}
+use Rattle.productions.proofs.Common.{left_of, right_of}
 use Rattle.productions.proofs.Lefts.{after, theirs_more, all_more, rising_more}
 use Rattle.productions.proofs.Numbers.{has_production}
 use Rattle.productions.proofs.augmented.by_left.Goals as goal

@@ -1,4 +1,5 @@
-use Rattle.productions.proofs.Common.{◌≡◌, ◌<◌, ℕ, [], All, AllPairs, Contains, length, slice_index_or, left_of}
+use Rattle.productions.proofs.Std.{◌≡◌, ◌<◌, ℕ, [], All, AllPairs, Contains, length, slice_index_or}
+use Rattle.productions.proofs.Common.{left_of}
 use Rattle.productions.proofs.augmented.by_left.Given as goal
 
 abbrev pub invariant-loop-index : goal.invariant-loop-index

@@ -1,4 +1,5 @@
-use Rattle.productions.proofs.Common.{◌≡◌, drop, nullable_by}
+use Rattle.productions.proofs.Std.{◌≡◌, drop}
+use Rattle.productions.proofs.Common.{nullable_by}
 use Rattle.productions.proofs.first.are_nullable.Given as goal
 
 abbrev pub invariant-loop-s : goal.invariant-loop-s

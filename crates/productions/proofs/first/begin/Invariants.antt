@@ -1,4 +1,5 @@
-use Rattle.productions.proofs.Common.{◌≡◌, drop, begin_by}
+use Rattle.productions.proofs.Std.{◌≡◌, drop}
+use Rattle.productions.proofs.Common.{begin_by}
 use Rattle.productions.proofs.first.begin.Given as goal
 
 abbrev pub invariant-loop-s : goal.invariant-loop-s

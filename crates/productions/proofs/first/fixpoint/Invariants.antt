@@ -1,4 +1,5 @@
-use Rattle.productions.proofs.Common.{◌≡◌, ◌+◌, length, false, AreTrue, AreClosed, on, unmarked}
+use Rattle.productions.proofs.Std.{◌≡◌, ◌+◌, length, false}
+use Rattle.productions.proofs.Common.{AreTrue, AreClosed, on, unmarked}
 use Rattle.productions.proofs.first.fixpoint.Given as goal
 
 abbrev pub invariant-loop-more : goal.invariant-loop-more

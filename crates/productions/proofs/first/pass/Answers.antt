@@ -1,4 +1,5 @@
-use Rattle.productions.proofs.Common.{rules, ◌≡◌, ◌<◌, ◌≤◌, true, false, length, slice_index_or, slice_set, arith, ap, sym, ◌∙◌, subst, length-set, holds_by, left_of, right_of}
+use Rattle.productions.proofs.Std.{rules, ◌≡◌, ◌<◌, ◌≤◌, true, false, length, slice_index_or, slice_set, arith, ap, sym, ◌∙◌, subst, length-set}
+use Rattle.productions.proofs.Common.{holds_by, left_of, right_of}
 use Rattle.productions.proofs.Numbers.{has_production, production_below}
 use Rattle.productions.proofs.Fixpoint.{true_more, unmarked_less, closed_more}
 use Rattle.productions.proofs.first.pass.Goals as goal

@@ -1,4 +1,5 @@
-use Rattle.productions.proofs.Common.{◌≡◌, ◌<◌, ◌≤◌, ℕ, List, length, slice_index_or, true, false, Symbol, HasProduction, AreTrue, holds_by, unmarked}
+use Rattle.productions.proofs.Std.{◌≡◌, ◌<◌, ◌≤◌, ℕ, List, length, slice_index_or, true, false}
+use Rattle.productions.proofs.Common.{Symbol, HasProduction, AreTrue, holds_by, unmarked}
 use Rattle.productions.proofs.first.pass.Given as goal
 
 abbrev pub invariant-loop-index : goal.invariant-loop-index

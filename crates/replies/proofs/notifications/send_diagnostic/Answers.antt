@@ -1,4 +1,4 @@
-use Rattle.replies.proofs.Common.{subst, Logs, text}
+use Rattle.replies.proofs.Std.{subst, Logs, text}
 use Rattle.replies.proofs.Objects.{sends_object, sends_member}
 use Rattle.replies.proofs.notifications.send_diagnostic.Goals as goal
 

@@ -1,4 +1,4 @@
-use Rattle.replies.proofs.Common.{on_ok_weaker}
+use Rattle.replies.proofs.Std.{on_ok_weaker}
 use Rattle.replies.proofs.notifications.send_one_diagnostic.Goals as goal
 
 pub returns : goal.returns

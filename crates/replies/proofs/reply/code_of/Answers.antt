@@ -1,4 +1,5 @@
-use Rattle.replies.proofs.Common.{sym, ap, code_of}
+use Rattle.replies.proofs.Std.{sym, ap}
+use Rattle.replies.proofs.Common.{code_of}
 use Rattle.replies.proofs.reply.code_of.Goals as goal
 
 pub returns-in-ParseError : goal.returns-in-ParseError

@@ -1,4 +1,5 @@
-use Rattle.replies.proofs.Common.{◌≡◌, suc, ◌-◌, ◌≤◌, List, [], ◌∷◌, length, take, drop, take_all, get_or, Some, sym, ap, subst, arith, OnOk, Range, SendsValue, range_data, with_parent, nested}
+use Rattle.replies.proofs.Std.{◌≡◌, suc, ◌-◌, ◌≤◌, List, [], ◌∷◌, length, take, drop, take_all, get_or, Some, sym, ap, subst, arith, OnOk, SendsValue}
+use Rattle.replies.proofs.Common.{Range, range_data, with_parent, nested}
 use Rattle.replies.proofs.Objects.{sends_object, sends_member}
 use Rattle.replies.proofs.results.+send_nested.Goals as goal
 

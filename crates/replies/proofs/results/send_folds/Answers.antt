@@ -1,4 +1,5 @@
-use Rattle.replies.proofs.Common.{map, refl, arith, on_ok_weaker, items_of, fold_data}
+use Rattle.replies.proofs.Std.{map, refl, arith, on_ok_weaker, items_of}
+use Rattle.replies.proofs.Common.{fold_data}
 use Rattle.replies.proofs.SentItems.{sent_more, all_sent}
 use Rattle.replies.proofs.results.send_folds.Goals as goal
 

@@ -1,4 +1,5 @@
-use Rattle.replies.proofs.Common.{map, drop, Log, SendsItems, items_of, fold_data}
+use Rattle.replies.proofs.Std.{map, drop, Log, SendsItems, items_of}
+use Rattle.replies.proofs.Common.{fold_data}
 use Rattle.replies.proofs.results.send_folds.Given as goal
 
 -- whatever sends what is left sends all

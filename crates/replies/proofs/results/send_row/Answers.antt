@@ -1,4 +1,4 @@
-use Rattle.replies.proofs.Common.{ap, subst, ◌∙◌, string_bytes, on_ok_weaker, Logs, text}
+use Rattle.replies.proofs.Std.{ap, subst, ◌∙◌, string_bytes, on_ok_weaker, Logs, text}
 use Rattle.replies.proofs.results.send_row.Goals as goal
 
 pub returns : goal.returns

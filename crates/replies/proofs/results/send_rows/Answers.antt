@@ -1,4 +1,5 @@
-use Rattle.replies.proofs.Common.{map, refl, subst, arith, on_ok_weaker, SendsValue, items_of, row_data, row_view}
+use Rattle.replies.proofs.Std.{map, refl, subst, arith, on_ok_weaker, SendsValue, items_of}
+use Rattle.replies.proofs.Common.{row_data, row_view}
 use Rattle.replies.proofs.SentItems.{sent_more, all_sent}
 use Rattle.replies.proofs.results.send_rows.Goals as goal
 

@@ -1,4 +1,5 @@
-use Rattle.replies.proofs.Common.{map, drop, Log, SendsItems, items_of, row_data, row_view}
+use Rattle.replies.proofs.Std.{map, drop, Log, SendsItems, items_of}
+use Rattle.replies.proofs.Common.{row_data, row_view}
 use Rattle.replies.proofs.results.send_rows.Given as goal
 
 -- whatever sends what is left sends all

@@ -1,4 +1,5 @@
-use Rattle.replies.proofs.Common.{map, refl, ap, ◌∙◌, subst, arith, on_ok_weaker, SendsValue, items_of, selection_data}
+use Rattle.replies.proofs.Std.{map, refl, ap, ◌∙◌, subst, arith, on_ok_weaker, SendsValue, items_of}
+use Rattle.replies.proofs.Common.{selection_data}
 use Rattle.replies.proofs.SentItems.{sent_more, all_sent}
 use Rattle.replies.proofs.results.send_selections.Goals as goal
 

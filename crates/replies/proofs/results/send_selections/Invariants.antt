@@ -1,4 +1,5 @@
-use Rattle.replies.proofs.Common.{map, drop, Log, SendsItems, items_of, selection_data}
+use Rattle.replies.proofs.Std.{map, drop, Log, SendsItems, items_of}
+use Rattle.replies.proofs.Common.{selection_data}
 use Rattle.replies.proofs.results.send_selections.Given as goal
 
 -- whatever sends what is left sends all

@@ -1,4 +1,5 @@
-use Rattle.replies.proofs.Common.{◌≡◌, Result, rules, map, sym, subst, to_z, of_z, to_z-of_z, w32, OnOk, ⊤, Log, SendsValue, Reply, id_view, text_reply, selections_reply, reply_data, reply_view}
+use Rattle.replies.proofs.Std.{◌≡◌, Result, rules, map, sym, subst, to_z, of_z, to_z-of_z, w32, OnOk, ⊤, Log, SendsValue}
+use Rattle.replies.proofs.Common.{Reply, id_view, text_reply, selections_reply, reply_data, reply_view}
 use Rattle.replies.proofs.sending.send_reply.Goals as goal
 
 -- what was sent of the reply that it is

@@ -1,4 +1,5 @@
-use Rattle.replies.proofs.Common.{text_of_value, reply_data, reply_view}
+use Rattle.replies.proofs.Std.{text_of_value}
+use Rattle.replies.proofs.Common.{reply_data, reply_view}
 use Rattle.replies.proofs.Replies.{reply_is_whole}
 use Rattle.replies.proofs.sending.to_bytes.Goals as goal
 

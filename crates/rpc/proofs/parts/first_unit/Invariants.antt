@@ -1,4 +1,5 @@
-use Rattle.rpc.proofs.Common.{◌≡◌, drop, items_view, first_unit}
+use Rattle.rpc.proofs.Std.{◌≡◌, drop, items_view}
+use Rattle.rpc.proofs.Common.{first_unit}
 use Rattle.rpc.proofs.parts.first_unit.Given as goal
 
 -- none of the items so far names a unit

@@ -1,4 +1,5 @@
-use Rattle.rpc.proofs.Common.{refl, sym, ◌∙◌, arith, position_of, positions_of}
+use Rattle.rpc.proofs.Std.{refl, sym, ◌∙◌, arith}
+use Rattle.rpc.proofs.Common.{position_of, positions_of}
 use Rattle.rpc.proofs.ListItems.{read_more, unread, all_read}
 use Rattle.rpc.proofs.parts.positions_of.Goals as goal
 

@@ -1,4 +1,5 @@
-use Rattle.rpc.proofs.Common.{◌≡◌, ◌++◌, List, drop, option_map, items_view, Position, positions_of}
+use Rattle.rpc.proofs.Std.{◌≡◌, ◌++◌, List, drop, option_map, items_view}
+use Rattle.rpc.proofs.Common.{Position, positions_of}
 use Rattle.rpc.proofs.parts.positions_of.Given as goal
 
 -- the positions so far, and those of what is left

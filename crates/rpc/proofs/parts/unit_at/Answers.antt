@@ -1,4 +1,5 @@
-use Rattle.rpc.proofs.Common.{◌≡◌, sym, ap, ◌∙◌, Some, option_and_then, unwrap_or, Utf16, Data, Items, array, as_array, view, items_view, view-Array, first_unit, encodings_at, unit_at}
+use Rattle.rpc.proofs.Std.{◌≡◌, sym, ap, ◌∙◌, Some, option_and_then, unwrap_or, Data, Items, array, as_array, view, items_view, view-Array}
+use Rattle.rpc.proofs.Common.{Utf16, first_unit, encodings_at, unit_at}
 use Rattle.rpc.proofs.parts.unit_at.Goals as goal
 
 unit_of_items : (params : Data) (items : Items) → Some (array items) ≡ encodings_at params → unwrap_or (first_unit items) Utf16 ≡ unit_at params

@@ -1,4 +1,5 @@
-use Rattle.rpc.proofs.Common.{refl, sym, ap, ◌∙◌, map, arith, option_map, map-append, change_view, change_of, changes_of}
+use Rattle.rpc.proofs.Std.{refl, sym, ap, ◌∙◌, map, arith, option_map, map-append}
+use Rattle.rpc.proofs.Common.{change_view, change_of, changes_of}
 use Rattle.rpc.proofs.ListItems.{read_more, unread, all_read}
 use Rattle.rpc.proofs.reading.changes_of.Goals as goal
 

@@ -1,4 +1,5 @@
-use Rattle.rpc.proofs.Common.{◌≡◌, ◌++◌, List, map, drop, option_map, items_view, TextChange, change_view, changes_of}
+use Rattle.rpc.proofs.Std.{◌≡◌, ◌++◌, List, map, drop, option_map, items_view}
+use Rattle.rpc.proofs.Common.{TextChange, change_view, changes_of}
 use Rattle.rpc.proofs.reading.changes_of.Given as goal
 
 -- the changes so far, and those of what is left

@@ -1,4 +1,5 @@
-use Rattle.runs.proofs.Common.{arith, refl, [], sym, ap, ◌∙◌, ◌≡◌, ◌-◌, ◌≤◌, length, take, drop, Some, None, slice_get, option_copied, most, flattened, within_chunks, inside, cut_in, cut_at_end}
+use Rattle.runs.proofs.Std.{arith, refl, [], sym, ap, ◌∙◌, ◌≡◌, ◌-◌, ◌≤◌, length, take, drop, Some, None, slice_get, option_copied}
+use Rattle.runs.proofs.Common.{most, flattened, within_chunks, inside, cut_in, cut_at_end}
 use Rattle.runs.proofs.Totals.{prefix, total-sum, items_before, starts_before, ends_after}
 use Rattle.runs.proofs.cuts.cut_with_sum.Goals as goal
 

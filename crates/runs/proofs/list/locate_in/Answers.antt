@@ -1,4 +1,5 @@
-use Rattle.runs.proofs.Common.{ℕ, arith, sym, ap, ◌∙◌, ◌≡◌, ◌+◌, take, below_more, total}
+use Rattle.runs.proofs.Std.{ℕ, arith, sym, ap, ◌∙◌, ◌≡◌, ◌+◌, take, below_more}
+use Rattle.runs.proofs.Common.{total}
 use Rattle.runs.proofs.Totals.{walked}
 use Rattle.runs.proofs.list.locate_in.Goals.{After-reached}
 use Rattle.runs.proofs.list.locate_in.Goals as goal

@@ -1,4 +1,5 @@
-use Rattle.runs.proofs.Common.{◌≡◌, ℕ, ◌+◌, ◌<◌, take, false, total}
+use Rattle.runs.proofs.Std.{◌≡◌, ℕ, ◌+◌, ◌<◌, take, false}
+use Rattle.runs.proofs.Common.{total}
 use Rattle.runs.proofs.list.locate_in.Given as goal
 
 -- no item so far reaches it

@@ -1,4 +1,5 @@
-use Rattle.runs.proofs.Common.{◌≡◌, take, total}
+use Rattle.runs.proofs.Std.{◌≡◌, take}
+use Rattle.runs.proofs.Common.{total}
 use Rattle.runs.proofs.run.sum_of.Given as goal
 
 abbrev pub invariant-loop-item : goal.invariant-loop-item

@@ -1,4 +1,4 @@
-use Rattle.seqtree.proofs.Common.{◌∷◌, ◌++◌, ◌≡◌, [], reverse, ap, sym, ◌∙◌, arith, reverse-append}
+use Rattle.seqtree.proofs.Std.{◌∷◌, ◌++◌, ◌≡◌, [], reverse, ap, sym, ◌∙◌, arith, reverse-append}
 use Rattle.std.proofs.Common.{append_assoc}
 use Rattle.seqtree.proofs.Cutting.{none_cut, one_more}
 use Rattle.seqtree.proofs.chunks.cut_up.Goals as goal

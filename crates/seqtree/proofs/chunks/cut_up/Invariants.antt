@@ -1,4 +1,5 @@
-use Rattle.seqtree.proofs.Common.{◌++◌, List, reverse, AreCut}
+use Rattle.seqtree.proofs.Std.{◌++◌, List, reverse}
+use Rattle.seqtree.proofs.Common.{AreCut}
 use Rattle.seqtree.proofs.chunks.cut_up.Given as goal
 
 -- whatever what is left is cut into, with the chunks so far after it

@@ -1,4 +1,5 @@
-use Rattle.seqtree.proofs.Common.{◌≡◌, ◌∷◌, ◌++◌, length, ◌+◌, ◌-◌, [], ap, sym, ◌∙◌, arith, length-append, items_of, height_of, items_ahead}
+use Rattle.seqtree.proofs.Std.{◌≡◌, ◌∷◌, ◌++◌, length, ◌+◌, ◌-◌, [], ap, sym, ◌∙◌, arith, length-append}
+use Rattle.seqtree.proofs.Common.{items_of, height_of, items_ahead}
 use Rattle.seqtree.proofs.Parts.{items_ahead-push, AreParts-push, length_around, drop-to_root, drop-in_left, drop-in_right, no_item}
 use Rattle.seqtree.proofs.iter.first_of.Goals as goal
 use Rattle.seqtree.proofs.iter.first_of.Goals.{then-before-count, else-before-count}

@@ -1,4 +1,5 @@
-use Rattle.seqtree.proofs.Common.{◌≡◌, ◌++◌, drop, length, ◌+◌, ◌<◌, ◌≤◌, items_of, height_of, part_items, items_ahead, AreParts}
+use Rattle.seqtree.proofs.Std.{◌≡◌, ◌++◌, drop, length, ◌+◌, ◌<◌, ◌≤◌}
+use Rattle.seqtree.proofs.Common.{items_of, height_of, part_items, items_ahead, AreParts}
 use Rattle.seqtree.proofs.iter.first_of.Given as goal
 
 -- what is left below, and then on the stack, is what is left

@@ -1,4 +1,5 @@
-use Rattle.seqtree.proofs.Common.{ap, ◌∙◌, arith, rules, items_of, total}
+use Rattle.seqtree.proofs.Std.{ap, ◌∙◌, arith, rules}
+use Rattle.seqtree.proofs.Common.{items_of, total}
 use Rattle.seqtree.proofs.HeightBound.{IsLow-fork, high-fork}
 use Rattle.seqtree.proofs.Totals.{total-around}
 use Rattle.seqtree.proofs.tree.fork.Goals as goal

@@ -1,4 +1,5 @@
-use Rattle.server.proofs.Common.{◌-◌, ℤ, w32, map, length, subst, arith, to_z-of_z, open_document, change_view, IsAfter, is_lost, Becomes, entry_view, becomes_by_parts, lost_by_parts}
+use Rattle.server.proofs.Std.{◌-◌, ℤ, w32, map, length, subst, arith, to_z-of_z}
+use Rattle.server.proofs.Common.{open_document, change_view, IsAfter, is_lost, Becomes, entry_view, becomes_by_parts, lost_by_parts}
 use Rattle.server.proofs.changes.apply_changes.Goals as goal
 
 pub returns-in-Ok-clause-becomes : goal.returns-in-Ok-clause-becomes

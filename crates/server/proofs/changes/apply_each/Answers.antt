@@ -1,4 +1,5 @@
-use Rattle.server.proofs.Common.{◌≡◌, ◌↔◌, ◌∙◌, ◌+◌, ap, sym, subst, List, map, take, ℕ, true, false, Option, Some, Err, Ok, Result, chars, changed, Encoding, last_edit, open_document, IsNext, LastEdit, OpenDocument, fits, DocFault, Memory, change_view, is_lost, Becomes, IsLastAfter, after, ends_there, goes_on, last_goes_on, may_lose, true_from_ne_false}
+use Rattle.server.proofs.Std.{◌≡◌, ◌↔◌, ◌∙◌, ◌+◌, ap, sym, subst, List, map, take, ℕ, true, false, Option, Some, Err, Ok, Result, chars, true_from_ne_false}
+use Rattle.server.proofs.Common.{changed, Encoding, last_edit, open_document, IsNext, LastEdit, OpenDocument, fits, DocFault, Memory, change_view, is_lost, Becomes, IsLastAfter, after, ends_there, goes_on, last_goes_on, may_lose}
 use Rattle.docs.specs.declared.doc.DocFault.TheVariants.{TooLarge}
 use Rattle.rpc.specs.Loss.TheVariants as loss
 use Rattle.server.proofs.Refusals.{either_fault}

@@ -1,4 +1,5 @@
-use Rattle.server.proofs.Common.{◌≡◌, map, take, Some, last_edit, IsCurrent, change_view, edited, IsLastAfter}
+use Rattle.server.proofs.Std.{◌≡◌, map, take, Some}
+use Rattle.server.proofs.Common.{last_edit, IsCurrent, change_view, edited, IsLastAfter}
 use Rattle.server.proofs.changes.apply_each.Given as goal
 
 abbrev pub invariant-loop-change : goal.invariant-loop-change

@@ -1,4 +1,5 @@
-use Rattle.server.proofs.Common.{◌≡◌, ◌∙◌, ◌+◌, ap, sym, subst, List, [], map, take, length, min, true, false, arith, Some, Err, min-eq_left, append-nil, length-map, length-take, take_all, chars, open_document, pending_text, changed, fits, Memory, TextChange, change_view, Encoding, is_lost, Becomes, after, all_changes, ends_there, goes_on, last_goes_on, may_lose, lost_on_the_way}
+use Rattle.server.proofs.Std.{◌≡◌, ◌∙◌, ◌+◌, ap, sym, subst, List, [], map, take, length, min, true, false, arith, Some, Err, min-eq_left, append-nil, length-map, length-take, take_all, chars}
+use Rattle.server.proofs.Common.{open_document, pending_text, changed, fits, Memory, TextChange, change_view, Encoding, is_lost, Becomes, after, all_changes, ends_there, goes_on, last_goes_on, may_lose, lost_on_the_way}
 use Rattle.docs.specs.declared.doc.DocFault.TheVariants.{TooLarge}
 use Rattle.rpc.specs.Loss.TheVariants as loss
 use Rattle.server.proofs.Refusals.{either_fault}

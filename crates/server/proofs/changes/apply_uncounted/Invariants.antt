@@ -1,4 +1,5 @@
-use Rattle.server.proofs.Common.{◌≡◌, ◌+◌, map, take, true, Option, Some, last_edit, number_of, HasNone, IsPending, pending_number, pending_text, pending_unit, LastEdit, fits, change_view, edited, IsLastAfter}
+use Rattle.server.proofs.Std.{◌≡◌, ◌+◌, map, take, true, Option, Some}
+use Rattle.server.proofs.Common.{last_edit, number_of, HasNone, IsPending, pending_number, pending_text, pending_unit, LastEdit, fits, change_view, edited, IsLastAfter}
 use Rattle.server.proofs.changes.apply_uncounted.Given as goal
 
 abbrev pub invariant-loop-change : goal.invariant-loop-change

@@ -1,4 +1,5 @@
-use Rattle.server.proofs.Common.{◌≡◌, ℕ, ℤ, w32, List, true, false, ap, sym, subst, ◌∙◌, None, Err, if◌then◌else◌, chars, to_z-of_z, open_document, OpenDocument, fits, DocFault, Encoding, TooLarge, is_open, is_lost, new_document}
+use Rattle.server.proofs.Std.{◌≡◌, ℕ, ℤ, w32, List, true, false, ap, sym, subst, ◌∙◌, None, Err, if◌then◌else◌, chars, to_z-of_z}
+use Rattle.server.proofs.Common.{open_document, OpenDocument, fits, DocFault, Encoding, TooLarge, is_open, is_lost, new_document}
 use Rattle.server.proofs.entry.open_entry.Goals as goal
 
 abbrev first : Encoding → ℤ → List ℕ → OpenDocument

@@ -1,4 +1,5 @@
-use Rattle.server.proofs.Common.{◌≡◌, arith, ℕ, List, [], take, subst, sym, Option, Err, Result, Consumes, Keeps, err_from_is_err_and, Tail, GoesOn, RunFault, FileGrammar, State, Session, Served, ServedInPart, IsCutShort, state_view}
+use Rattle.server.proofs.Std.{◌≡◌, arith, ℕ, List, [], take, subst, sym, Option, Err, Result, Consumes, Keeps, err_from_is_err_and}
+use Rattle.server.proofs.Common.{Tail, GoesOn, RunFault, FileGrammar, State, Session, Served, ServedInPart, IsCutShort, state_view}
 use Rattle.server.proofs.Bytes.{is_open}
 use Rattle.server.proofs.Loop.{IsReady, Fed, at_start, can_serve, fed, read_fails, input_ends, exits, stream_fails, answering_fails, feeding_fails}
 use Rattle.server.proofs.CutSessions.{part_kept, served_kept}

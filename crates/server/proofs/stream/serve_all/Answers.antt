@@ -1,4 +1,5 @@
-use Rattle.server.proofs.Common.{◌++◌, ℕ, List, [], ◌∷◌, subst, sym, ap, ◌∙◌, append_assoc, Option, Some, None, err_from_is_err_and, into_iter_items, contents, RunFault, Served, ServedInPart, IsCutShort, state_view, run_serves}
+use Rattle.server.proofs.Std.{◌++◌, ℕ, List, [], ◌∷◌, subst, sym, ap, ◌∙◌, append_assoc, Option, Some, None, err_from_is_err_and, into_iter_items}
+use Rattle.server.proofs.Common.{contents, RunFault, Served, ServedInPart, IsCutShort, state_view, run_serves}
 use Rattle.server.proofs.CutSessions.{cut_off, part_on, part_then}
 use Rattle.server.proofs.Bytes.{contents_more, contents_all}
 use Rattle.server.proofs.Runs.{served_stops, served_then}

@@ -1,4 +1,5 @@
-use Rattle.server.proofs.Common.{◌≡◌, ◌++◌, None, into_iter_items, contents, Served, state_view}
+use Rattle.server.proofs.Std.{◌≡◌, ◌++◌, None, into_iter_items}
+use Rattle.server.proofs.Common.{contents, Served, state_view}
 use Rattle.server.proofs.stream.serve_all.Given as goal
 
 abbrev pub invariant-loop-frame : goal.invariant-loop-frame

@@ -1,4 +1,5 @@
-use Rattle.server.proofs.Common.{[], ◌∷◌, map, subst, sym, err_from_is_err_and, received_of, received_in, reply_view, RunFault, ServedInPart, IsCutShort, state_view}
+use Rattle.server.proofs.Std.{[], ◌∷◌, map, subst, sym, err_from_is_err_and}
+use Rattle.server.proofs.Common.{received_of, received_in, reply_view, RunFault, ServedInPart, IsCutShort, state_view}
 use Rattle.server.proofs.Runs.{step_of_received, one_run}
 use Rattle.server.proofs.CutSessions.{cut_off, part_nothing}
 use Rattle.server.proofs.stream.serve_content.Goals as goal

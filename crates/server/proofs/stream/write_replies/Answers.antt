@@ -1,4 +1,5 @@
-use Rattle.server.proofs.Common.{◌≡◌, ◌+◌, ◌<◌, ℕ, ◌++◌, List, [], ◌∷◌, map, length, get_or, take, drop, subst, sym, ap, ◌∙◌, Reply, Appends, take_more, map-append, take-append-drop, frame, compact_text, reply_view, reply_data, bytes_of, AppendsPrefix}
+use Rattle.server.proofs.Std.{◌≡◌, ◌+◌, ◌<◌, ℕ, ◌++◌, List, [], ◌∷◌, map, length, get_or, take, drop, subst, sym, ap, ◌∙◌, Appends, take_more, map-append, take-append-drop}
+use Rattle.server.proofs.Common.{Reply, frame, compact_text, reply_view, reply_data, bytes_of, AppendsPrefix}
 use Rattle.std.proofs.Common.{append-nil}
 use Rattle.server.proofs.Bytes.{appends_then, on_err, prefix_all, prefix_of_more, prefix_after}
 use Rattle.server.proofs.Runs.{bytes_then}

@@ -1,4 +1,5 @@
-use Rattle.server.proofs.Common.{◌≡◌, take, map, Appends, reply_view, bytes_of}
+use Rattle.server.proofs.Std.{◌≡◌, take, map, Appends}
+use Rattle.server.proofs.Common.{reply_view, bytes_of}
 use Rattle.server.proofs.stream.write_replies.Given as goal
 
 abbrev pub invariant-loop-reply : goal.invariant-loop-reply

@@ -1,4 +1,5 @@
-use Rattle.states.proofs.Common.{◌++◌, ◌<◌, ◌≡◌, ◌∙◌, ◌∷◌, [], List, arith, length, subst, sym, true, HasStates}
+use Rattle.states.proofs.Std.{◌++◌, ◌<◌, ◌≡◌, ◌∙◌, ◌∷◌, [], List, arith, length, subst, sym, true}
+use Rattle.states.proofs.Common.{HasStates}
 use Rattle.definitions.specs.TreeEdits.{plain}
 use Rattle.definitions.specs.Trees.{IsTree}
 use Rattle.states.proofs.Descents.{down_first, down_last, down_more, more_below}

@@ -1,4 +1,4 @@
-use Rattle.states.proofs.Common.{◌≡◌}
+use Rattle.states.proofs.Std.{◌≡◌}
 use Rattle.states.proofs.Descents.{IsDown}
 use Rattle.states.proofs.descent.pile_at.Given as goal
 

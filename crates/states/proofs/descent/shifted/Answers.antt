@@ -1,4 +1,4 @@
-use Rattle.states.proofs.Common.{Some, ap}
+use Rattle.states.proofs.Std.{Some, ap}
 use Rattle.states.proofs.descent.shifted.Goals as goal
 
 pub returns-in-Some-Shift : goal.returns-in-Some-Shift

@@ -1,4 +1,5 @@
-use Rattle.tables.proofs.Common.{rules, ◌≡◌, ◌<◌, ◌∷◌, ◌++◌, [], ℕ, Bool, false, Option, Some, None, length, Contains, slice_index_or, ap, sym, subst, ⊎_elim, arith, ◌∙◌, is_some, cases_eq, get_or_default, Contains-get_or, Contains-push, Contains-push_cases, Contains-append_left, All-push, rank, CallsFor, kind_of, Item, IsItem, item_of}
+use Rattle.tables.proofs.Std.{rules, ◌≡◌, ◌<◌, ◌∷◌, ◌++◌, [], ℕ, Bool, false, Option, Some, None, length, Contains, slice_index_or, ap, sym, subst, ⊎_elim, arith, ◌∙◌, is_some, cases_eq, get_or_default, Contains-get_or, Contains-push, Contains-push_cases, Contains-append_left, All-push}
+use Rattle.tables.proofs.Common.{rank, CallsFor, kind_of, Item, IsItem, item_of}
 use Rattle.tables.proofs.decisions.callers.Goals as goal
 use Rattle.tables.proofs.decisions.callers.Goals.{then-is_some+in_ok-push, else-is_some}
 

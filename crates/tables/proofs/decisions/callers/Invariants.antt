@@ -1,4 +1,5 @@
-use Rattle.tables.proofs.Common.{◌<◌, ℕ, Option, All, Contains, slice_index_or, CallsFor, kind_of, Item, IsItem, item_of, LrMove as Move}
+use Rattle.tables.proofs.Std.{◌<◌, ℕ, Option, All, Contains, slice_index_or}
+use Rattle.tables.proofs.Common.{CallsFor, kind_of, Item, IsItem, item_of, LrMove as Move}
 use Rattle.tables.proofs.decisions.callers.Given as goal
 
 abbrev pub invariant-loop-item : goal.invariant-loop-item

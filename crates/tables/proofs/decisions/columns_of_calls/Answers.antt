@@ -1,4 +1,5 @@
-use Rattle.tables.proofs.Common.{◌≡◌, ◌<◌, ◌+◌, None, Option, ℕ, true, length, slice_index_or, sym, subst, ◌∙◌, arith, IfSome, length-set, CallsFor, kind_of, Item, rank, item_of, LrMove as Move}
+use Rattle.tables.proofs.Std.{◌≡◌, ◌<◌, ◌+◌, None, Option, ℕ, true, length, slice_index_or, sym, subst, ◌∙◌, arith, IfSome, length-set}
+use Rattle.tables.proofs.Common.{CallsFor, kind_of, Item, rank, item_of, LrMove as Move}
 use Rattle.tables.proofs.LookaheadMarks.{mark_more, mark_none}
 use Rattle.tables.proofs.decisions.columns_of_calls.Goals as goal
 use Rattle.tables.proofs.decisions.columns_of_calls.Goals.{in-Some, in_default}

@@ -1,4 +1,5 @@
-use Rattle.tables.proofs.Common.{◌≡◌, ◌<◌, ◌+◌, Option, true, false, length, slice_index_or, ℕ, CallsFor, kind_of, Item, item_of, rank, LrMove as Move}
+use Rattle.tables.proofs.Std.{◌≡◌, ◌<◌, ◌+◌, Option, true, false, length, slice_index_or, ℕ}
+use Rattle.tables.proofs.Common.{CallsFor, kind_of, Item, item_of, rank, LrMove as Move}
 use Rattle.tables.proofs.decisions.columns_of_calls.Given as goal
 
 abbrev pub invariant-loop-item : goal.invariant-loop-item

@@ -1,4 +1,5 @@
-use Rattle.tables.proofs.Common.{arith, ◌≡◌, ◌<◌, ◌+◌, ◌∷◌, ◌++◌, [], None, Option, ℕ, true, false, length, length-append, slice_index_or, ap, sym, subst, refl, inl, inr, ◌∙◌, Move, Moves, AClash, IsDecided, Nothing, Agreed, IsDecision, lookahead_at, rank, AreChosen, IsChosen, chosen, rank-lookahead_at, each_more}
+use Rattle.tables.proofs.Std.{arith, ◌≡◌, ◌<◌, ◌+◌, ◌∷◌, ◌++◌, [], None, Option, ℕ, true, false, length, length-append, slice_index_or, ap, sym, subst, refl, inl, inr, ◌∙◌}
+use Rattle.tables.proofs.Common.{Move, Moves, AClash, IsDecided, Nothing, Agreed, IsDecision, lookahead_at, rank, AreChosen, IsChosen, chosen, rank-lookahead_at, each_more}
 use Rattle.tables.proofs.DecisionOfPrefix.{decided_all}
 use Rattle.tables.proofs.decisions.moves_of.Goals as goal
 use Rattle.tables.proofs.decisions.moves_of.Goals.{then-has+in-Nothing+in_ok-push-in-Nothing, then-has+in-Agreed+in_ok-push-in-Agreed, else-has+in_ok-push}

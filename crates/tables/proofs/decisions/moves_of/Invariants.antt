@@ -1,4 +1,5 @@
-use Rattle.tables.proofs.Common.{◌≡◌, ◌<◌, ℕ, None, length, slice_index_or, lookahead_at, IsChosen}
+use Rattle.tables.proofs.Std.{◌≡◌, ◌<◌, ℕ, None, length, slice_index_or}
+use Rattle.tables.proofs.Common.{lookahead_at, IsChosen}
 use Rattle.tables.proofs.decisions.moves_of.Given as goal
 
 abbrev pub invariant-loop-column : goal.invariant-loop-column

@@ -1,4 +1,4 @@
-use Rattle.tables.proofs.Common.{arith, common_steps}
+use Rattle.tables.proofs.Std.{arith, common_steps}
 use Rattle.tables.proofs.packed.numbers_of.Goals as goal
 
 pub returns : goal.returns

@@ -1,4 +1,5 @@
-use Rattle.tables.proofs.Common.{◌≡◌, List, length, sym, ap, subst, ◌∙◌, Symbol, kernel_at, IsRow, HasKernel, HasSet, IsDecided, arith, common_steps}
+use Rattle.tables.proofs.Std.{◌≡◌, List, length, sym, ap, subst, ◌∙◌, arith, common_steps}
+use Rattle.tables.proofs.Common.{Symbol, kernel_at, IsRow, HasKernel, HasSet, IsDecided}
 use Rattle.tables.proofs.MovesOfState.{made_more}
 use Rattle.tables.proofs.progress.advance.Goals as goal
 

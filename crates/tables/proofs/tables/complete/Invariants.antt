@@ -1,4 +1,5 @@
-use Rattle.tables.proofs.Common.{◌≤◌, ◌-◌, length, AreMade, AreStates}
+use Rattle.tables.proofs.Std.{◌≤◌, ◌-◌, length}
+use Rattle.tables.proofs.Common.{AreMade, AreStates}
 use Rattle.tables.proofs.tables.complete.Given as goal
 
 abbrev pub invariant-loop-states : goal.invariant-loop-states

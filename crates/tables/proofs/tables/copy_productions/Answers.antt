@@ -1,4 +1,5 @@
-use Rattle.tables.proofs.Common.{◌≡◌, length, sym, ◌∙◌, subst, arith, rules, IsSound, common_steps}
+use Rattle.tables.proofs.Std.{◌≡◌, length, sym, ◌∙◌, subst, arith, rules, common_steps}
+use Rattle.tables.proofs.Common.{IsSound}
 use Rattle.tables.proofs.ProductionsOfFile.{all_of_them, shape_sound}
 use Rattle.tables.proofs.tables.copy_productions.Goals as goal
 

@@ -1,4 +1,5 @@
-use Rattle.tables.proofs.Common.{length, sym, ap, subst, ◌∙◌, Made, AreMade}
+use Rattle.tables.proofs.Std.{length, sym, ap, subst, ◌∙◌}
+use Rattle.tables.proofs.Common.{Made, AreMade}
 use Rattle.tables.proofs.Finishing.{tables_all}
 use Rattle.tables.proofs.tables.finish.Goals as goal
 

@@ -1,4 +1,4 @@
-use Rattle.text.proofs.Common.{rules, arith, ◌≡◌, ◌<◌, ℕ, slice_index_or, subst, true, All-more}
+use Rattle.text.proofs.Std.{rules, arith, ◌≡◌, ◌<◌, ℕ, slice_index_or, subst, true, All-more}
 use Rattle.text.proofs.characters.passed.Goals as goal
 
 pub loop-count-preserved : goal.loop-count-preserved

@@ -1,4 +1,5 @@
-use Rattle.text.proofs.Common.{arith, ap, sym, ◌∙◌, ◌≡◌, ◌++◌, ℕ, List, [], ◌∷◌, length, text_in, chars, chars-nil}
+use Rattle.text.proofs.Std.{arith, ap, sym, ◌∙◌, ◌≡◌, ◌++◌, ℕ, List, [], ◌∷◌, length, chars, chars-nil}
+use Rattle.text.proofs.Common.{text_in}
 use Rattle.text.proofs.characters.refill.Goals as goal
 
 none : (bs : List ℕ) → length bs ≡ 0 → chars bs ≡ []

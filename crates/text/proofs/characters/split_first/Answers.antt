@@ -1,4 +1,4 @@
-use Rattle.text.proofs.Common.{chars_past_char, chars, sym, ap, ◌∷◌, ◌∙◌}
+use Rattle.text.proofs.Std.{chars_past_char, chars, sym, ap, ◌∷◌, ◌∙◌}
 use Rattle.text.proofs.characters.split_first.Goals as goal
 
 pub returns : goal.returns

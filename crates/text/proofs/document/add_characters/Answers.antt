@@ -1,4 +1,4 @@
-use Rattle.text.proofs.Common.{◌≡◌, ◌∷◌, ◌++◌, [], ap, sym, ◌∙◌, append_assoc, chars, YieldsList-from_chars, YieldsList-end, map-id}
+use Rattle.text.proofs.Std.{◌≡◌, ◌∷◌, ◌++◌, [], ap, sym, ◌∙◌, append_assoc, chars, YieldsList-from_chars, YieldsList-end, map-id}
 use Rattle.text.proofs.document.add_characters.Goals as goal
 
 pub loop-c-preserved : goal.loop-c-preserved

@@ -1,4 +1,5 @@
-use Rattle.text.proofs.Common.{sym, ◌∙◌, ◌≡◌, ◌+◌, Position, unit}
+use Rattle.text.proofs.Std.{sym, ◌∙◌, ◌≡◌, ◌+◌}
+use Rattle.text.proofs.Common.{Position, unit}
 use Rattle.text.proofs.NextPosition.{after_break, after_return, after_other}
 use Rattle.text.proofs.places.position_after.Goals as goal
 

@@ -1,4 +1,4 @@
-use Rattle.trees.proofs.Common.{arith, common_steps}
+use Rattle.trees.proofs.Std.{arith, common_steps}
 use Rattle.trees.proofs.node.pack_many.Goals as goal
 
 pub returns-clause-are : goal.returns-clause-are

@@ -1,4 +1,5 @@
-use Rattle.trees.proofs.Common.{◌≡◌, map, take, unpack}
+use Rattle.trees.proofs.Std.{◌≡◌, map, take}
+use Rattle.trees.proofs.Common.{unpack}
 use Rattle.trees.proofs.node.pack_many.Given as goal
 
 abbrev pub invariant-loop-child : goal.invariant-loop-child

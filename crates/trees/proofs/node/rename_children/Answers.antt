@@ -1,4 +1,5 @@
-use Rattle.trees.proofs.Common.{rules, ◌<◌, length, Rule, Node, Token}
+use Rattle.trees.proofs.Std.{rules, ◌<◌, length}
+use Rattle.trees.proofs.Common.{Rule, Node, Token}
 use Rattle.trees.proofs.Slides.{next_below}
 use Rattle.trees.proofs.node.rename_children.Goals as goal
 

@@ -1,4 +1,5 @@
-use Rattle.trees.proofs.Common.{◌≡◌, ◌++◌, drop, length, map, take, renamed}
+use Rattle.trees.proofs.Std.{◌≡◌, ◌++◌, drop, length, map, take}
+use Rattle.trees.proofs.Common.{renamed}
 use Rattle.trees.proofs.node.rename_children.Given as goal
 
 abbrev pub invariant-loop-child : goal.invariant-loop-child

@@ -1,4 +1,5 @@
-use Rattle.trees.proofs.Common.{◌∙◌, ap, sym, subst, length, IsBelow, unpack}
+use Rattle.trees.proofs.Std.{◌∙◌, ap, sym, subst, length}
+use Rattle.trees.proofs.Common.{IsBelow, unpack}
 use Rattle.trees.proofs.Slides.{same_next, stands_below}
 use Rattle.trees.proofs.node.rename_numbers.Goals as goal
 

@@ -1,4 +1,5 @@
-use Rattle.trees.proofs.Common.{◌≡◌, ◌++◌, drop, length, map, take, unpack, renamed}
+use Rattle.trees.proofs.Std.{◌≡◌, ◌++◌, drop, length, map, take}
+use Rattle.trees.proofs.Common.{unpack, renamed}
 use Rattle.trees.proofs.node.rename_numbers.Given as goal
 
 abbrev pub invariant-loop-number : goal.invariant-loop-number

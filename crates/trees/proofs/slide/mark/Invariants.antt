@@ -1,4 +1,5 @@
-use Rattle.trees.proofs.Common.{◌≡◌, length, AreBelow, mark_all}
+use Rattle.trees.proofs.Std.{◌≡◌, length}
+use Rattle.trees.proofs.Common.{AreBelow, mark_all}
 use Rattle.trees.proofs.slide.mark.Given as goal
 
 abbrev pub invariant-loop-child : goal.invariant-loop-child

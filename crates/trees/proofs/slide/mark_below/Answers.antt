@@ -1,4 +1,5 @@
-use Rattle.trees.proofs.Common.{◌≡◌, ◌+◌, ◌-◌, ◌<◌, suc, [], count_by, length, get_or, sym, ap, ◌∙◌, subst, arith, refl, get_or_read_under, take_all, blank, trees_from, AreBelow, mark_all, owed, AreMarked, IsClosedFrom}
+use Rattle.trees.proofs.Std.{◌≡◌, ◌+◌, ◌-◌, ◌<◌, suc, [], count_by, length, get_or, sym, ap, ◌∙◌, subst, arith, refl, get_or_read_under, take_all}
+use Rattle.trees.proofs.Common.{blank, trees_from, AreBelow, mark_all, owed, AreMarked, IsClosedFrom}
 use Rattle.trees.proofs.Cells.{all_below-more, from-length, store_at}
 use Rattle.trees.proofs.Owed.{owed_next, owed_no}
 use Rattle.trees.proofs.Slides.{all-kept, closed_next, closed_same, mark-long}

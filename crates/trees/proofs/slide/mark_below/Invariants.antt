@@ -1,4 +1,5 @@
-use Rattle.trees.proofs.Common.{◌≡◌, ◌≤◌, List, [], length, Child, trees_from, owed, IsClosedFrom, AreMarked}
+use Rattle.trees.proofs.Std.{◌≡◌, ◌≤◌, List, [], length}
+use Rattle.trees.proofs.Common.{Child, trees_from, owed, IsClosedFrom, AreMarked}
 use Rattle.trees.proofs.slide.mark_below.Given as goal
 
 abbrev pub invariant-loop-i : goal.invariant-loop-i

@@ -1,4 +1,5 @@
-use Rattle.trees.proofs.Common.{rules, ◌≡◌, ◌<◌, ℕ, Bool, false, List, replicate, [], ◌++◌, drop, length, get_or, take, set, true, sym, ap, ◌∙◌, subst, arith, append-nil, drop_all, length-replicate, length-set, take_all, take_more, nodes, trees_from, owed, rank, AreMarked, common_steps}
+use Rattle.trees.proofs.Std.{rules, ◌≡◌, ◌<◌, ℕ, Bool, false, List, replicate, [], ◌++◌, drop, length, get_or, take, set, true, sym, ap, ◌∙◌, subst, arith, append-nil, drop_all, length-replicate, length-set, take_all, take_more, common_steps}
+use Rattle.trees.proofs.Common.{nodes, trees_from, owed, rank, AreMarked}
 use Rattle.trees.proofs.Owed.{owed_none, owed_set, sizes_from}
 use Rattle.trees.proofs.Slides.{root_below, roots-marked}
 use Rattle.trees.proofs.slide.marked.Goals as goal

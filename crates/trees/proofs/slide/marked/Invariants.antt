@@ -1,4 +1,5 @@
-use Rattle.trees.proofs.Common.{◌≡◌, ◌+◌, ◌≤◌, [], drop, length, take, nodes, sizes, trees_from, owed, AreMarked}
+use Rattle.trees.proofs.Std.{◌≡◌, ◌+◌, ◌≤◌, [], drop, length, take}
+use Rattle.trees.proofs.Common.{nodes, sizes, trees_from, owed, AreMarked}
 use Rattle.trees.proofs.slide.marked.Given as goal
 
 abbrev pub invariant-loop-root : goal.invariant-loop-root

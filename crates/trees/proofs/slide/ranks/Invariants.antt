@@ -1,4 +1,5 @@
-use Rattle.trees.proofs.Common.{◌≡◌, take, rank, AreRanks}
+use Rattle.trees.proofs.Std.{◌≡◌, take}
+use Rattle.trees.proofs.Common.{rank, AreRanks}
 use Rattle.trees.proofs.slide.ranks.Given as goal
 
 abbrev pub invariant-loop-mark : goal.invariant-loop-mark

@@ -1,4 +1,4 @@
-use Rattle.trees.proofs.Common.{rules, ◌<◌, length, get_or}
+use Rattle.trees.proofs.Std.{rules, ◌<◌, length, get_or}
 use Rattle.trees.proofs.Slides.{next-root_below}
 use Rattle.trees.proofs.slide.rename_roots.Goals as goal
 

@@ -1,4 +1,5 @@
-use Rattle.trees.proofs.Common.{◌≡◌, ◌++◌, drop, length, map, take, nodes, renamed}
+use Rattle.trees.proofs.Std.{◌≡◌, ◌++◌, drop, length, map, take}
+use Rattle.trees.proofs.Common.{nodes, renamed}
 use Rattle.trees.proofs.slide.rename_roots.Given as goal
 
 abbrev pub invariant-loop-root : goal.invariant-loop-root

@@ -1,4 +1,4 @@
-use Rattle.trees.proofs.Common.{◌+◌, set, sym, subst, rules, arith, common_steps}
+use Rattle.trees.proofs.Std.{◌+◌, set, sym, subst, rules, arith, common_steps}
 use Rattle.trees.proofs.Slides.{IsSlidTo, slid_skip, slid_step, swapped_below}
 use Rattle.trees.proofs.slide.slide.Goals.{then-marks-i, else-marks-i}
 use Rattle.trees.proofs.slide.slide.Goals as goal

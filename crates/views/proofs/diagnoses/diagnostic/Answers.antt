@@ -1,4 +1,5 @@
-use Rattle.views.proofs.Common.{◌≡◌, ◌∙◌, ◌<◌, Some, ap, arith, length, sym, string_bytes, IsUtf8-string_bytes, position, encodes-chars, significant_kinds, length-kinds, FaultAt, FaultAtEnd, shown}
+use Rattle.views.proofs.Std.{◌≡◌, ◌∙◌, ◌<◌, Some, ap, arith, length, sym, string_bytes, IsUtf8-string_bytes}
+use Rattle.views.proofs.Common.{position, encodes-chars, significant_kinds, length-kinds, FaultAt, FaultAtEnd, shown}
 use Rattle.views.proofs.FaultDiagnostic.{diagnosis_at, diagnosis_at_end, fault_within}
 use Rattle.views.proofs.diagnoses.diagnostic.Goals as goal
 

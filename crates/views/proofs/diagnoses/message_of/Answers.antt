@@ -1,4 +1,4 @@
-use Rattle.views.proofs.Common.{string_bytes, IsUtf8-string_bytes}
+use Rattle.views.proofs.Std.{string_bytes, IsUtf8-string_bytes}
 use Rattle.views.proofs.FaultDiagnostic.{message_written}
 use Rattle.views.proofs.diagnoses.message_of.Goals as goal
 

@@ -1,4 +1,5 @@
-use Rattle.views.proofs.Common.{ap, sym, name_or_end}
+use Rattle.views.proofs.Std.{ap, sym}
+use Rattle.views.proofs.Common.{name_or_end}
 use Rattle.std.specs.Str.{chars}
 use Rattle.views.proofs.diagnoses.name_or_end.Goals as goal
 

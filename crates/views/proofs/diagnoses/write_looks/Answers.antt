@@ -1,4 +1,5 @@
-use Rattle.views.proofs.Common.{encode, rules, ◌≡◌, ◌∙◌, ◌++◌, ◌∷◌, [], List, ℕ, ap, refl, sym, subst, option_map, string_bytes, codes, IsUtf8-string_bytes, Rule, listed, name_or_end}
+use Rattle.views.proofs.Std.{encode, rules, ◌≡◌, ◌∙◌, ◌++◌, ◌∷◌, [], List, ℕ, ap, refl, sym, subst, option_map, string_bytes, codes, IsUtf8-string_bytes}
+use Rattle.views.proofs.Common.{Rule, listed, name_or_end}
 use Rattle.std.specs.Str.{chars}
 use Rattle.views.proofs.FaultDiagnostic.{IsListing, names_of, listing_begun, listing_more}
 use Rattle.views.proofs.diagnoses.write_looks.Goals as goal

@@ -1,4 +1,5 @@
-use Rattle.views.proofs.Common.{shadow, Utf8, ◌++◌, string_bytes, listed}
+use Rattle.views.proofs.Std.{shadow, Utf8, ◌++◌, string_bytes}
+use Rattle.views.proofs.Common.{listed}
 use Rattle.std.specs.Str.{chars}
 use Rattle.views.proofs.FaultDiagnostic.{IsListing, names_of}
 use Rattle.views.proofs.diagnoses.write_looks.Given as goal

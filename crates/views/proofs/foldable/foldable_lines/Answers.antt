@@ -1,4 +1,5 @@
-use Rattle.views.proofs.Common.{arith, ◌≡◌, ◌+◌, ◌∷◌, ◌++◌, [], length, subst, subst₂, sym, ap, ◌∙◌, refl, IsBelow, Siblings}
+use Rattle.views.proofs.Std.{arith, ◌≡◌, ◌+◌, ◌∷◌, ◌++◌, [], length, subst, subst₂, sym, ap, ◌∙◌, refl}
+use Rattle.views.proofs.Common.{IsBelow, Siblings}
 use Rattle.views.proofs.WalkGathersFolds.{IsWalking, walking_none, walked, walking_end, walking_end-smaller, count_within, walking_token, walking_line, walking_past-smaller, child_below, production_within, walking_into, walking_into-smaller}
 use Rattle.views.proofs.foldable.foldable_lines.Goals as goal
 

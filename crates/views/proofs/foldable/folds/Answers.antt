@@ -1,4 +1,5 @@
-use Rattle.views.proofs.Common.{arith, ℕ, List, ap, length, map, subst, sym, ◌∙◌, dedup_is, plain, AreAscending, AreSpanned, placed_parts, trees_of_roots}
+use Rattle.views.proofs.Std.{arith, ℕ, List, ap, length, map, subst, sym, ◌∙◌, dedup_is}
+use Rattle.views.proofs.Common.{plain, AreAscending, AreSpanned, placed_parts, trees_of_roots}
 use Rattle.views.proofs.LinesOfTokens.{lines_ascend, length-lines, length-significant}
 use Rattle.views.proofs.FoldsSorted.{shown_are_folds}
 use Rattle.views.proofs.foldable.folds.Goals as goal

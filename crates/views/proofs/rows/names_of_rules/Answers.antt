@@ -1,4 +1,4 @@
-use Rattle.views.proofs.Common.{arith, ◌∙◌, take_all}
+use Rattle.views.proofs.Std.{arith, ◌∙◌, take_all}
 use Rattle.std.specs.Str.{chars}
 use Rattle.std.specs.String.{string_bytes}
 use Rattle.views.proofs.RowsOfTokens.{named_more}

@@ -1,4 +1,4 @@
-use Rattle.views.proofs.Common.{◌≡◌, map, take}
+use Rattle.views.proofs.Std.{◌≡◌, map, take}
 use Rattle.std.specs.Str.{chars}
 use Rattle.std.specs.String.{string_bytes}
 use Rattle.views.proofs.rows.names_of_rules.Given as goal

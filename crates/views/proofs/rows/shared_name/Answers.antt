@@ -1,4 +1,5 @@
-use Rattle.views.proofs.Common.{◌≡◌, ◌∙◌, [], Result, Ok, Err, MatchResult, IfOk, length, slice_index_or, ap, sym, kind_name, ltb-true}
+use Rattle.views.proofs.Std.{◌≡◌, ◌∙◌, [], Result, Ok, Err, MatchResult, IfOk, length, slice_index_or, ap, sym, ltb-true}
+use Rattle.views.proofs.Common.{kind_name}
 use Rattle.std.proofs.lemmas.List.{get_or-map}
 use Rattle.std.specs.Str.{chars}
 use Rattle.std.specs.String.{string_bytes}

@@ -1,4 +1,5 @@
-use Rattle.views.proofs.Common.{◌≡◌, ◌∙◌, ◌∷◌, ◌++◌, [], ap, sym, subst, kind_name, SharedRow, shared_bytes, IsUtf8-string_bytes}
+use Rattle.views.proofs.Std.{◌≡◌, ◌∙◌, ◌∷◌, ◌++◌, [], ap, sym, subst, IsUtf8-string_bytes}
+use Rattle.views.proofs.Common.{kind_name, SharedRow, shared_bytes}
 use Rattle.views.proofs.RowsOfTokens.{IsReported, shown_more}
 use Rattle.views.proofs.rows.shared_rows.Goals as goal
 

@@ -1,4 +1,5 @@
-use Rattle.views.proofs.Common.{◌≡◌, ◌∙◌, ◌∷◌, ◌++◌, [], ap, sym, subst, kind_name, Row, row_bytes}
+use Rattle.views.proofs.Std.{◌≡◌, ◌∙◌, ◌∷◌, ◌++◌, [], ap, sym, subst}
+use Rattle.views.proofs.Common.{kind_name, Row, row_bytes}
 use Rattle.views.proofs.RowsOfTokens.{IsReported, shown_more}
 use Rattle.views.proofs.rows.token_rows.Goals as goal
 

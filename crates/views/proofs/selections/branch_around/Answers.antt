@@ -1,4 +1,5 @@
-use Rattle.views.proofs.Common.{◌≡◌, ◌+◌, true, false, nat_lt, arith, and_from, and_left, and_right, lt-ltb, le-ltb, is_around}
+use Rattle.views.proofs.Std.{◌≡◌, ◌+◌, true, false, nat_lt, arith, and_from, and_left, and_right, lt-ltb, le-ltb}
+use Rattle.views.proofs.Common.{is_around}
 use Rattle.views.proofs.Children.{end_fits, searching_below, searching_found, searching_next}
 use Rattle.views.proofs.selections.branch_around.Goals as goal
 use Rattle.views.proofs.selections.branch_around.Goals.{else-start-point-via-then-start-point+else-point-end, else-start-point-via-else-start-point}

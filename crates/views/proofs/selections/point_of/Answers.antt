@@ -1,4 +1,4 @@
-use Rattle.views.proofs.Common.{sym, ◌∙◌, subst, not-true, not-false}
+use Rattle.views.proofs.Std.{sym, ◌∙◌, subst, not-true, not-false}
 use Rattle.views.proofs.LocatedOffset.{IsLocated, point_inside, point_skipped, point_after}
 use Rattle.views.proofs.selections.point_of.Goals as goal
 

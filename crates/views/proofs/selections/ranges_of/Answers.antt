@@ -1,4 +1,5 @@
-use Rattle.views.proofs.Common.{ℕ, List, sym, ap, ◌≡◌, ◌∙◌, ◌++◌, ◌∷◌, [], map, append_assoc, reverse, push, append-nil, map-append, nil_from_length, reverse-append, Range, range_of}
+use Rattle.views.proofs.Std.{ℕ, List, sym, ap, ◌≡◌, ◌∙◌, ◌++◌, ◌∷◌, [], map, append_assoc, reverse, push, append-nil, map-append, nil_from_length, reverse-append}
+use Rattle.views.proofs.Common.{Range, range_of}
 use Rattle.views.proofs.selections.ranges_of.Goals as goal
 
 one_more : (f : ℕ × ℕ → Range) (reported : List Range) (old rest : List (ℕ × ℕ)) (x : ℕ × ℕ) → old ≡ push rest x → (reported ++ f x ∷ []) ++ reverse (map f rest) ≡ reported ++ reverse (map f old)

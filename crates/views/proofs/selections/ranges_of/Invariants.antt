@@ -1,4 +1,5 @@
-use Rattle.views.proofs.Common.{◌≡◌, ◌++◌, map, reverse, range_of}
+use Rattle.views.proofs.Std.{◌≡◌, ◌++◌, map, reverse}
+use Rattle.views.proofs.Common.{range_of}
 use Rattle.views.proofs.selections.ranges_of.Given as goal
 
 abbrev pub invariant-loop-start : goal.invariant-loop-start

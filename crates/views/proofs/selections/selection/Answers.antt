@@ -1,4 +1,5 @@
-use Rattle.views.proofs.Common.{ap, ◌≤◌, map, sym, ◌∙◌, subst, arith, All, length, count_by, reverse, IfOk-weaker, range_of, FileGrammar, is_significant, plain, IsAround, IsSpanOf, placed_parts}
+use Rattle.views.proofs.Std.{ap, ◌≤◌, map, sym, ◌∙◌, subst, arith, All, length, count_by, reverse, IfOk-weaker}
+use Rattle.views.proofs.Common.{range_of, FileGrammar, is_significant, plain, IsAround, IsSpanOf, placed_parts}
 use Rattle.views.proofs.SelectionOfOffset.{roots_fit, spans_stand, selected_roots}
 use Rattle.views.proofs.selections.selection.Goals as goal
 

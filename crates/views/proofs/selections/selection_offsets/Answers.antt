@@ -1,4 +1,5 @@
-use Rattle.views.proofs.Common.{◌≡◌, ◌+◌, ◌-◌, ◌<◌, ℕ, List, [], ◌∷◌, ◌++◌, length, map, take, drop, get_or, sym, ap, ◌∙◌, arith, between, take_more, take_all, map-append, length-map, drop-map, between_to_end, Placed, placed, significant, plain, inside, offsets_of}
+use Rattle.views.proofs.Std.{◌≡◌, ◌+◌, ◌-◌, ◌<◌, ℕ, List, [], ◌∷◌, ◌++◌, length, map, take, drop, get_or, sym, ap, ◌∙◌, arith, between, take_more, take_all, map-append, length-map, drop-map, between_to_end}
+use Rattle.views.proofs.Common.{Placed, placed, significant, plain, inside, offsets_of}
 use Rattle.views.proofs.SpansAround.{shortened_is}
 use Rattle.views.proofs.selections.selection_offsets.Goals as goal
 

@@ -1,4 +1,5 @@
-use Rattle.views.proofs.Common.{◌≡◌, ◌∷◌, Bool, List, map, take, All, is_skipped, placed, significant, kind_in, plain, offsets_of}
+use Rattle.views.proofs.Std.{◌≡◌, ◌∷◌, Bool, List, map, take, All}
+use Rattle.views.proofs.Common.{is_skipped, placed, significant, kind_in, plain, offsets_of}
 use Rattle.views.proofs.selections.selection_offsets.Given as goal
 
 abbrev pub invariant-loop-span : goal.invariant-loop-span

@@ -1,4 +1,5 @@
-use Rattle.views.proofs.Common.{◌≡◌, [], ◌∷◌, ◌++◌, length, sym, ap, ◌∙◌, subst, arith, append_assoc, IfSome, dedup, append-nil, dedup_is, AreBelow, is_same, spans_all, trees_of_roots}
+use Rattle.views.proofs.Std.{◌≡◌, [], ◌∷◌, ◌++◌, length, sym, ap, ◌∙◌, subst, arith, append_assoc, IfSome, dedup, append-nil, dedup_is}
+use Rattle.views.proofs.Common.{AreBelow, is_same, spans_all, trees_of_roots}
 use Rattle.views.proofs.Children.{pending, IsNext, found_next, found_pending, children_fit, children_pending, children_below}
 use Rattle.views.proofs.selections.spans_around.Goals as goal
 

@@ -1,4 +1,5 @@
-use Rattle.views.proofs.Common.{◌≡◌, ◌++◌, length, IfSome, spans_all, trees_of_roots}
+use Rattle.views.proofs.Std.{◌≡◌, ◌++◌, length, IfSome}
+use Rattle.views.proofs.Common.{spans_all, trees_of_roots}
 use Rattle.views.proofs.Children.{pending, IsNext}
 use Rattle.views.proofs.selections.spans_around.Given as goal
 

@@ -1,4 +1,5 @@
-use Rattle.views.proofs.Common.{◌≡◌, true, false, List, map, sym, ap, ◌∙◌, Placed, placed, significant, plain, is_same, offsets_of}
+use Rattle.views.proofs.Std.{◌≡◌, true, false, List, map, sym, ap, ◌∙◌}
+use Rattle.views.proofs.Common.{Placed, placed, significant, plain, is_same, offsets_of}
 use Rattle.views.proofs.SpansAround.{inside_same, inside_other}
 use Rattle.views.proofs.selections.spans_inside.Goals as goal
 

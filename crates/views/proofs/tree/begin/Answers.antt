@@ -1,4 +1,5 @@
-use Rattle.views.proofs.Common.{arith, ap, lit<, ◌∙◌, ◌++◌, string_bytes, IsUtf8-string_bytes, all_below-more}
+use Rattle.views.proofs.Std.{arith, ap, lit<, ◌∙◌, ◌++◌, string_bytes, IsUtf8-string_bytes}
+use Rattle.views.proofs.Common.{all_below-more}
 use Rattle.views.proofs.Writing.{begun}
 use Rattle.views.proofs.tree.begin.Goals as goal
 

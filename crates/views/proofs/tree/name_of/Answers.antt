@@ -1,4 +1,5 @@
-use Rattle.views.proofs.Common.{◌≡◌, slice_index, sym, ◌∙◌, ap, arith, [], get_or-map, get_or_past, chars-nil, Production, left_of, FileGrammar, lefts}
+use Rattle.views.proofs.Std.{◌≡◌, slice_index, sym, ◌∙◌, ap, arith, [], get_or-map, get_or_past, chars-nil}
+use Rattle.views.proofs.Common.{Production, left_of, FileGrammar, lefts}
 use Rattle.views.proofs.tree.name_of.Goals as goal
 use Rattle.views.proofs.tree.name_of.Goals.{then-production-productions, else-production-productions}
 

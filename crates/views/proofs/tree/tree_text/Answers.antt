@@ -1,4 +1,5 @@
-use Rattle.views.proofs.Common.{◌≡◌, ◌++◌, ◌∷◌, [], List, ℕ, length, lit<, refl, sym, ap, ◌∙◌, ◌<◌, arith, string_bytes, encode_utf8_all, IsUtf8-string_bytes, encodes-chars, NodeId, Child, Cell, tree, FileGrammar, text_of}
+use Rattle.views.proofs.Std.{◌≡◌, ◌++◌, ◌∷◌, [], List, ℕ, length, lit<, refl, sym, ap, ◌∙◌, ◌<◌, arith, string_bytes, encode_utf8_all, IsUtf8-string_bytes}
+use Rattle.views.proofs.Common.{encodes-chars, NodeId, Child, Cell, tree, FileGrammar, text_of}
 use Rattle.std.specs.Str.{chars}
 use Rattle.definitions.specs.TreeEdits.{plain}
 use Rattle.trees.specs.declared.store.Child.TheVariants.{Node}

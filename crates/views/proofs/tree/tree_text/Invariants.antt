@@ -1,4 +1,5 @@
-use Rattle.views.proofs.Common.{length, string_bytes, tree, text_of}
+use Rattle.views.proofs.Std.{length, string_bytes}
+use Rattle.views.proofs.Common.{tree, text_of}
 use Rattle.definitions.specs.TreeEdits.{plain}
 use Rattle.trees.specs.declared.store.Child.TheVariants.{Node}
 use Rattle.views.proofs.Writing.{pending, IsWriting}

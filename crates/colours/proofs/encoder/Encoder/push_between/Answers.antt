@@ -1,4 +1,4 @@
-use Rattle.colours.proofs.Common.{◌≡◌, arith, on_ok_weaker}
+use Rattle.colours.proofs.Std.{◌≡◌, arith, on_ok_weaker}
 use Rattle.colours.proofs.Encodings.{pushed_all, pushed_more}
 use Rattle.colours.proofs.encoder.Encoder.push_between.Goals as goal
 

@@ -1,4 +1,4 @@
-use Rattle.colours.proofs.Common.{◌-◌, ◌≡◌, arith, lt-ltb, nat_lt, true}
+use Rattle.colours.proofs.Std.{◌-◌, ◌≡◌, arith, lt-ltb, nat_lt, true}
 use Rattle.colours.proofs.encoder.Encoder.push_on.Goals as goal
 
 pub returns-clause-encoded : goal.returns-clause-encoded

@@ -1,4 +1,5 @@
-use Rattle.colours.proofs.Common.{◌≡◌, ◌∙◌, ◌∷◌, [], List, ap, arith, drop, refl, subst, colour_of, Token}
+use Rattle.colours.proofs.Std.{◌≡◌, ◌∙◌, ◌∷◌, [], List, ap, arith, drop, refl, subst}
+use Rattle.colours.proofs.Common.{colour_of, Token}
 use Rattle.colours.proofs.WindowWalks.{AreWithin, ascends, last_before, none_below, within_all, within_more, within_start, within_whole}
 use Rattle.colours.proofs.ranges.Window.colours.Goals as goal
 

@@ -1,4 +1,4 @@
-use Rattle.colours.proofs.Common.{◌≡◌}
+use Rattle.colours.proofs.Std.{◌≡◌}
 use Rattle.colours.proofs.WindowWalks.{AreWithin}
 use Rattle.colours.specs.Steps.{line_at}
 use Rattle.colours.proofs.ranges.Window.colours.Given as goal

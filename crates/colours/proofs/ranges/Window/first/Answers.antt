@@ -1,4 +1,5 @@
-use Rattle.colours.proofs.Common.{◌≤◌, ◌≡◌, ◌^◌, ◌-◌, ◌∙◌, List, ap, arith, characters, length, sum_by-take-le, take, tokens_length, tot, total_characters, Sums, Token}
+use Rattle.colours.proofs.Std.{◌≤◌, ◌≡◌, ◌^◌, ◌-◌, ◌∙◌, List, ap, arith, length, sum_by-take-le, take}
+use Rattle.colours.proofs.Common.{characters, tokens_length, tot, total_characters, Sums, Token}
 use Rattle.colours.proofs.ranges.Window.first.Goals as goal
 
 pub returns-clause-offset : goal.returns-clause-offset

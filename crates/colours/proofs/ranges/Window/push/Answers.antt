@@ -1,4 +1,5 @@
-use Rattle.colours.proofs.Common.{◌++◌, ◌≡◌, [], List, OnOk, append-nil, parts_in, subst, sym, within, AreEncoded, Part}
+use Rattle.colours.proofs.Std.{◌++◌, ◌≡◌, [], List, OnOk, append-nil, subst, sym}
+use Rattle.colours.proofs.Common.{parts_in, within, AreEncoded, Part}
 use Rattle.colours.proofs.Windows.{nearest, nothing_near}
 use Rattle.colours.proofs.ranges.Window.push.Goals as goal
 

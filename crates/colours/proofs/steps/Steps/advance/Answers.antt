@@ -1,4 +1,5 @@
-use Rattle.colours.proofs.Common.{◌∙◌, ap, arith, sym, Position}
+use Rattle.colours.proofs.Std.{◌∙◌, ap, arith, sym}
+use Rattle.colours.proofs.Common.{Position}
 use Rattle.colours.proofs.Stepping.{caught, few_plain, place-plain, small_character, step-plain}
 use Rattle.colours.proofs.steps.Steps.advance.Goals as goal
 

@@ -1,4 +1,4 @@
-use Rattle.colours.proofs.Common.{arith}
+use Rattle.colours.proofs.Std.{arith}
 use Rattle.colours.proofs.steps.Steps.advance_far.Goals as goal
 
 pub returns-clause-offset : goal.returns-clause-offset

@@ -1,4 +1,4 @@
-use Rattle.colours.proofs.Common.{◌+◌, ◌≡◌, ◌≤◌, length}
+use Rattle.colours.proofs.Std.{◌+◌, ◌≡◌, ◌≤◌, length}
 use Rattle.colours.specs.Steps.{line_at}
 use Rattle.colours.proofs.steps.Steps.advance_far.Given as goal
 

@@ -1,4 +1,5 @@
-use Rattle.colours.proofs.Common.{◌+◌, ◌≡◌, ◌∙◌, ◌∷◌, [], ap, arith, ends_break, length, length-append, subst, sym, Position}
+use Rattle.colours.proofs.Std.{◌+◌, ◌≡◌, ◌∙◌, ◌∷◌, [], ap, arith, length, length-append, subst, sym}
+use Rattle.colours.proofs.Common.{ends_break, Position}
 use Rattle.colours.proofs.NextPosition.{line-same}
 use Rattle.colours.proofs.Stepping.{caught, ends-more, few_plain, here, place-break, place-plain, small_character, small_line, step-one, step-plain}
 use Rattle.colours.specs.Steps.{AreEnds}

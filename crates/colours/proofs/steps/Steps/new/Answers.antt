@@ -1,4 +1,4 @@
-use Rattle.colours.proofs.Common.{◌+◌, ◌≡◌, ◌≤◌, ◌∙◌, All, ap, arith, drop, drop-drop, length, length-drop, subst, sym, take}
+use Rattle.colours.proofs.Std.{◌+◌, ◌≡◌, ◌≤◌, ◌∙◌, All, ap, arith, drop, drop-drop, length, length-drop, subst, sym, take}
 use Rattle.colours.proofs.Stepping.{plain_each}
 use Rattle.colours.specs.Steps.{IsPlain}
 use Rattle.colours.proofs.steps.Steps.new.Goals as goal

@@ -1,4 +1,4 @@
-use Rattle.commands.proofs.Common.{sym, ap}
+use Rattle.commands.proofs.Std.{sym, ap}
 use Rattle.commands.specs.Status.{fault_of}
 use Rattle.commands.proofs.fault.FaultFromRunFault.from.Goals as goal
 

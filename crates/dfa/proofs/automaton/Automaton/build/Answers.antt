@@ -1,4 +1,5 @@
-use Rattle.dfa.proofs.Common.{ℕ, List, sym, ap, ◌∙◌, subst, All, Contains, IsCharacter, all_cuts, AreRows, members, IsAscending, IsAutomaton, part}
+use Rattle.dfa.proofs.Std.{ℕ, List, sym, ap, ◌∙◌, subst, All, Contains}
+use Rattle.dfa.proofs.Common.{IsCharacter, all_cuts, AreRows, members, IsAscending, IsAutomaton, part}
 use Rattle.dfa.proofs.CompleteTable.{automaton}
 use Rattle.dfa.proofs.StateCount.{few}
 use Rattle.dfa.proofs.AddedRow.{table_of_rows}

@@ -1,4 +1,5 @@
-use Rattle.dfa.proofs.Common.{arith, ◌≡◌, ◌⊎◌, ℕ, List, Option, take, suc, IfSome, ◌+◌, ◌*◌, ◌-◌, ◌<◌, ◌≤◌, Some, None, drop, length, length-drop, slice_index_or, subst, sym, ◌∙◌, inl, inr, refl, ap, get_or-drop, All-nil, Expression, IsCharacter, IsText, IsCharacter-from_scalar, Match, IsNoted, Table, follower, part, state_after, width, IsAutomaton, IsWithinReach}
+use Rattle.dfa.proofs.Std.{arith, ◌≡◌, ◌⊎◌, ℕ, List, Option, take, suc, IfSome, ◌+◌, ◌*◌, ◌-◌, ◌<◌, ◌≤◌, Some, None, drop, length, length-drop, slice_index_or, subst, sym, ◌∙◌, inl, inr, refl, ap, get_or-drop, All-nil}
+use Rattle.dfa.proofs.Common.{Expression, IsCharacter, IsText, IsCharacter-from_scalar, Match, IsNoted, Table, follower, part, state_after, width, IsAutomaton, IsWithinReach}
 use Rattle.dfa.proofs.Numbers.{numbered_positive}
 use Rattle.dfa.proofs.LongestMatch.{AreBounds, read_none, read_anew, read_on, kept_noted, kept_prefixes, kept_text, keeps_on, state_after-none, within_reach, Ends, piece_of, reach_of, more_state, more_text, more_prefix, more_first, more_dead, prefixes_more}
 use Rattle.dfa.proofs.automaton.Automaton.longest.Given.{Over}

@@ -1,4 +1,5 @@
-use Rattle.dfa.proofs.Common.{ℕ, ◌+◌, ◌-◌, ◌≡◌, ◌≤◌, List, take, drop, Some, Expression, IsText, IsRulePrefix, IsState, IsAutomaton, state_after, IsNoted}
+use Rattle.dfa.proofs.Std.{ℕ, ◌+◌, ◌-◌, ◌≡◌, ◌≤◌, List, take, drop, Some}
+use Rattle.dfa.proofs.Common.{Expression, IsText, IsRulePrefix, IsState, IsAutomaton, state_after, IsNoted}
 use Rattle.dfa.proofs.LongestMatch.{AreBounds}
 use Rattle.dfa.proofs.automaton.Automaton.longest.Given as goal
 

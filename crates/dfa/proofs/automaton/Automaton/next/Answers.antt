@@ -1,4 +1,5 @@
-use Rattle.dfa.proofs.Common.{◌≡◌, ◌<◌, ◌+◌, length, arith, ap, sym, ◌∙◌, subst, slice_index_or, nat_le, get_or_default, prefix_len-le-length, part, follower, numbered, IsState, table_of}
+use Rattle.dfa.proofs.Std.{◌≡◌, ◌<◌, ◌+◌, length, arith, ap, sym, ◌∙◌, subst, slice_index_or, nat_le, get_or_default, prefix_len-le-length}
+use Rattle.dfa.proofs.Common.{part, follower, numbered, IsState, table_of}
 use Rattle.dfa.proofs.Numbers.{entry_is, entry_within, numbered_some}
 use Rattle.dfa.proofs.automaton.Automaton.next.Goals.{After-part, After-from}
 use Rattle.dfa.proofs.automaton.Automaton.next.Goals as goal

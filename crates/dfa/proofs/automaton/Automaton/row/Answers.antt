@@ -1,4 +1,5 @@
-use Rattle.dfa.proofs.Common.{arith, sym, subst, ◌∙◌, ◌≡◌, ◌-◌, ap, ℕ, List, drop, length, length-drop, take, slice_index_or, Some, take_all, IsState, IsAsciiRow, follower}
+use Rattle.dfa.proofs.Std.{arith, sym, subst, ◌∙◌, ◌≡◌, ◌-◌, ap, ℕ, List, drop, length, length-drop, take, slice_index_or, Some, take_all}
+use Rattle.dfa.proofs.Common.{IsState, IsAsciiRow, follower}
 use Rattle.dfa.proofs.Numbers.{row_follower, row_wide}
 use Rattle.dfa.proofs.automaton.Automaton.row.Goals as goal
 

@@ -1,4 +1,5 @@
-use Rattle.dfa.proofs.Common.{rules, ◌≡◌, ◌<◌, drop, take, slice_index_or, ascii_entry}
+use Rattle.dfa.proofs.Std.{rules, ◌≡◌, ◌<◌, drop, take, slice_index_or}
+use Rattle.dfa.proofs.Common.{ascii_entry}
 use Rattle.dfa.proofs.automaton.Automaton.stay.Goals as goal
 
 pub pass-requires-clause-window : goal.pass-requires-clause-window

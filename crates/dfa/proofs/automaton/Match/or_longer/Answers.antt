@@ -1,4 +1,5 @@
-use Rattle.dfa.proofs.Common.{arith, ◌<◌, ℕ, Option, subst, sym, IsBest, IsNoted}
+use Rattle.dfa.proofs.Std.{arith, ◌<◌, ℕ, Option, subst, sym}
+use Rattle.dfa.proofs.Common.{IsBest, IsNoted}
 use Rattle.dfa.proofs.LongestMatch.{best_at_start, best_matched, best_unmatched}
 use Rattle.dfa.proofs.automaton.Match.or_longer.Goals as goal
 

@@ -1,4 +1,5 @@
-use Rattle.dfa.proofs.Common.{◌≡◌, ℕ, ◌<◌, List, [], length, slice_index_or, refl, sym, ap, ◌∙◌, subst, arith, get_or_default, marks_of, Expression, Rises, AreEntries, AreStates, IsNumber, IsReached, Placed, kept, members}
+use Rattle.dfa.proofs.Std.{◌≡◌, ℕ, ◌<◌, List, [], length, slice_index_or, refl, sym, ap, ◌∙◌, subst, arith, get_or_default}
+use Rattle.dfa.proofs.Common.{marks_of, Expression, Rises, AreEntries, AreStates, IsNumber, IsReached, Placed, kept, members}
 use Rattle.dfa.proofs.StatesGrow.{placed_states, placed_grows, grows_none, grows_more, entries_none, entries_more}
 use Rattle.dfa.proofs.states.States.add_entries.Goals.{After-number}
 use Rattle.dfa.proofs.states.States.add_entries.Goals as goal

@@ -1,4 +1,5 @@
-use Rattle.dfa.proofs.Common.{◌≡◌, ◌≤◌, ◌<◌, ℕ, List, [], length, slice_index_or, Expression, marks_of, AreEntries, AreStates, Grows, IsReached, kept, members}
+use Rattle.dfa.proofs.Std.{◌≡◌, ◌≤◌, ◌<◌, ℕ, List, [], length, slice_index_or}
+use Rattle.dfa.proofs.Common.{Expression, marks_of, AreEntries, AreStates, Grows, IsReached, kept, members}
 use Rattle.dfa.proofs.states.States.add_entries.Given as goal
 
 abbrev pub invariant-loop-holders : goal.invariant-loop-holders

@@ -1,4 +1,5 @@
-use Rattle.dfa.proofs.Common.{◌≡◌, ◌∷◌, [], ◌++◌, length, ap, sym, ◌∙◌, subst, arith, AreRows, AreStates, members}
+use Rattle.dfa.proofs.Std.{◌≡◌, ◌∷◌, [], ◌++◌, length, ap, sym, ◌∙◌, subst, arith}
+use Rattle.dfa.proofs.Common.{AreRows, AreStates, members}
 use Rattle.dfa.proofs.AddedRow.{parts_rise, within_parts}
 use Rattle.dfa.proofs.RowOfTrees.{followers_below, followers_rise, row_made, row_reached, set_rises, set_within}
 use Rattle.dfa.proofs.Trees.{trees_count, trees_counted}

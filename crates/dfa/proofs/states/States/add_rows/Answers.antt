@@ -1,4 +1,5 @@
-use Rattle.dfa.proofs.Common.{◌≡◌, ℕ, ◌-◌, ◌<◌, ◌∙◌, Vec, Global, IfErr, length, arith, rules, IfErr-weaker, TooManyStates, length-map, members}
+use Rattle.dfa.proofs.Std.{◌≡◌, ℕ, ◌-◌, ◌<◌, ◌∙◌, Vec, Global, IfErr, length, arith, rules, IfErr-weaker, length-map}
+use Rattle.dfa.proofs.Common.{TooManyStates, members}
 use Rattle.dfa.proofs.StateCount.{many_states}
 use Rattle.dfa.proofs.states.States.add_rows.Goals as goal
 

@@ -1,4 +1,5 @@
-use Rattle.dfa.proofs.Common.{◌≡◌, ◌-◌, ℕ, List, length, Expression, AreBlank, all_counts, AreRows, AreRules, members}
+use Rattle.dfa.proofs.Std.{◌≡◌, ◌-◌, ℕ, List, length}
+use Rattle.dfa.proofs.Common.{Expression, AreBlank, all_counts, AreRows, AreRules, members}
 use Rattle.dfa.proofs.states.States.add_rows.Given as goal
 
 abbrev pub invariant-rows : goal.invariant-rows

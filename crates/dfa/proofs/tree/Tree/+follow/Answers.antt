@@ -1,4 +1,5 @@
-use Rattle.dfa.proofs.Common.{arith, marks_of, common_steps}
+use Rattle.dfa.proofs.Std.{arith, common_steps}
+use Rattle.dfa.proofs.Common.{marks_of}
 use Rattle.dfa.proofs.Trees.{none_added}
 use Rattle.dfa.proofs.tree.Tree.+follow.Goals as goal
 

@@ -1,4 +1,4 @@
-use Rattle.dfa.proofs.Common.{◌+◌, rules, IfOk-weaker}
+use Rattle.dfa.proofs.Std.{◌+◌, rules, IfOk-weaker}
 use Rattle.dfa.proofs.Trees.{joined_in}
 use Rattle.dfa.proofs.tree.Tree.+join.Goals as goal
 

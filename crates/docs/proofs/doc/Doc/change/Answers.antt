@@ -1,4 +1,5 @@
-use Rattle.docs.proofs.Common.{Edit, ◌≡◌, ◌≤◌, ◌+◌, ◌-◌, length, min, refl, ap, sym, subst, ◌∙◌, arith, chars, edit, length-edit, AreMadeBy, AreOlder, AreStamped, all_trees, forest_in, last_edit, edit_of, common_steps}
+use Rattle.docs.proofs.Std.{◌≡◌, ◌≤◌, ◌+◌, ◌-◌, length, min, refl, ap, sym, subst, ◌∙◌, arith, chars, common_steps}
+use Rattle.docs.proofs.Common.{Edit, edit, length-edit, AreMadeBy, AreOlder, AreStamped, all_trees, forest_in, last_edit, edit_of}
 use Rattle.docs.proofs.Edits.{next_is, next_later, next_positive, number_after_edit, same_edit}
 use Rattle.docs.proofs.Refusals.{IsText-changed, large_edit, passed_on, after_text, all_made}
 use Rattle.docs.proofs.doc.Doc.change.Goals as goal

@@ -1,4 +1,5 @@
-use Rattle.docs.proofs.Common.{IfOk-weaker, if_ok_both}
+use Rattle.docs.proofs.Std.{IfOk-weaker}
+use Rattle.docs.proofs.Common.{if_ok_both}
 use Rattle.docs.proofs.StoredReading.{fault_shown, tree_there}
 use Rattle.docs.proofs.doc.Doc.diagnostic.Goals as goal
 

@@ -1,4 +1,4 @@
-use Rattle.docs.proofs.Common.{IfOk-weaker}
+use Rattle.docs.proofs.Std.{IfOk-weaker}
 use Rattle.docs.proofs.StoredReading.{has_the_nodes, roots_found, folds_shown}
 use Rattle.docs.proofs.doc.Doc.folds.Goals as goal
 

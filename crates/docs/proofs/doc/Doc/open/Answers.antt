@@ -1,4 +1,5 @@
-use Rattle.docs.proofs.Common.{◌≡◌, ◌≤◌, ◌∙◌, length, ap, refl, subst, sym, arith, All-weaker, IsParseOf, chars, fits, significant_kinds, true_from_ne_false}
+use Rattle.docs.proofs.Std.{◌≡◌, ◌≤◌, ◌∙◌, length, ap, refl, subst, sym, arith, All-weaker, chars, true_from_ne_false}
+use Rattle.docs.proofs.Common.{IsParseOf, fits, significant_kinds}
 use Rattle.docs.proofs.Refusals.{large_text, passed_on, text_made, after_text, all_made}
 use Rattle.docs.proofs.doc.Doc.open.Goals as goal
 

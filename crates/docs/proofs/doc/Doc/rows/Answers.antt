@@ -1,4 +1,4 @@
-use Rattle.docs.proofs.Common.{IfOk-weaker}
+use Rattle.docs.proofs.Std.{IfOk-weaker}
 use Rattle.docs.proofs.StoredReading.{rows_shown}
 use Rattle.docs.proofs.doc.Doc.rows.Goals as goal
 

@@ -1,4 +1,5 @@
-use Rattle.docs.proofs.Common.{◌≡◌, ◌+◌, ◌++◌, List, [], ◌∷◌, map, get_or, take, subst, sym, ap, ◌∙◌, take_more, map-append, take_all, Position, Range, trees_of_roots, AreSelections}
+use Rattle.docs.proofs.Std.{◌≡◌, ◌+◌, ◌++◌, List, [], ◌∷◌, map, get_or, take, subst, sym, ap, ◌∙◌, take_more, map-append, take_all}
+use Rattle.docs.proofs.Common.{Position, Range, trees_of_roots, AreSelections}
 use Rattle.docs.proofs.StoredReading.{has_the_nodes, reading_of, selections_more, selections_read}
 use Rattle.docs.proofs.doc.Doc.selections.Goals as goal
 

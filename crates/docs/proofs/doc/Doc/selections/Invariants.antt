@@ -1,4 +1,5 @@
-use Rattle.docs.proofs.Common.{map, take, trees_of_roots, AreSelections, IsCurrent, LanguageData}
+use Rattle.docs.proofs.Std.{map, take}
+use Rattle.docs.proofs.Common.{trees_of_roots, AreSelections, IsCurrent, LanguageData}
 use Rattle.docs.proofs.StoredReading.{reading_of}
 use Rattle.docs.proofs.doc.Doc.selections.Given as goal
 

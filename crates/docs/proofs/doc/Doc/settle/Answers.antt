@@ -1,4 +1,5 @@
-use Rattle.docs.proofs.Common.{◌≤◌, refl, sym, subst, arith, All, Built, Doc, IsParseOf, plain_of, significant_kinds}
+use Rattle.docs.proofs.Std.{◌≤◌, refl, sym, subst, arith, All}
+use Rattle.docs.proofs.Common.{Built, Doc, IsParseOf, plain_of, significant_kinds}
 use Rattle.docs.proofs.Stamps.{born_on, stamped_so}
 use Rattle.docs.proofs.doc.Doc.settle.Goals as goal
 

@@ -1,4 +1,5 @@
-use Rattle.docs.proofs.Common.{rules, Stats}
+use Rattle.docs.proofs.Std.{rules}
+use Rattle.docs.proofs.Common.{Stats}
 use Rattle.docs.proofs.Edits.{stats_are}
 use Rattle.docs.proofs.doc.Doc.stats.Goals as goal
 

@@ -1,4 +1,5 @@
-use Rattle.docs.proofs.Common.{◌≡◌, ◌∙◌, sym, subst, HasMoreSetsThan, HasNoConflict, FileGrammar, IsRight, TableFault, Conflict, IsReport, Shown, HasAutomaton, IsLanguageOf}
+use Rattle.docs.proofs.Std.{◌≡◌, ◌∙◌, sym, subst}
+use Rattle.docs.proofs.Common.{HasMoreSetsThan, HasNoConflict, FileGrammar, IsRight, TableFault, Conflict, IsReport, Shown, HasAutomaton, IsLanguageOf}
 use Rattle.docs.proofs.language.Language.load.Goals as goal
 
 pub returns-in-Err-TooManyStates-clause-fault : goal.returns-in-Err-TooManyStates-clause-fault

@@ -1,4 +1,5 @@
-use Rattle.docs.proofs.Common.{◌≡◌, IfOk, length, ap, subst, sym, ◌∙◌, encode_utf8_all, encodes-chars, lexicon_of, AreTokensOf}
+use Rattle.docs.proofs.Std.{◌≡◌, IfOk, length, ap, subst, sym, ◌∙◌, encode_utf8_all, encodes-chars}
+use Rattle.docs.proofs.Common.{lexicon_of, AreTokensOf}
 use Rattle.docs.proofs.AsciiTexts.{its_bytes}
 use Rattle.docs.proofs.language.Language.scan.Goals as goal
 

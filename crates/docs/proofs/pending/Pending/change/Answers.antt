@@ -1,4 +1,5 @@
-use Rattle.docs.proofs.Common.{List, ◌≡◌, ◌≤◌, ◌-◌, ◌+◌, ◌<◌, ◌^◌, ◌∙◌, ℕ, length, min, inl, inr, ⊎_elim, refl, sym, ap, subst, arith, Option, Some, None, Err, MatchOption, chars, Edit, IsText, edit, length-edit, TooLarge, Memory, LeadsTo, IsApart, joined, next_pending, number_or, pending_number, true_from_ne_false, common_steps}
+use Rattle.docs.proofs.Std.{List, ◌≡◌, ◌≤◌, ◌-◌, ◌+◌, ◌<◌, ◌^◌, ◌∙◌, ℕ, length, min, inl, inr, ⊎_elim, refl, sym, ap, subst, arith, Option, Some, None, Err, MatchOption, chars, true_from_ne_false, common_steps}
+use Rattle.docs.proofs.Common.{Edit, IsText, edit, length-edit, TooLarge, Memory, LeadsTo, IsApart, joined, next_pending, number_or, pending_number}
 use Rattle.docs.proofs.Edits.{next_later, next_positive, same_edit}
 use Rattle.docs.proofs.JoinedEdits.{joined_leads, small_edit}
 use Rattle.docs.proofs.Refusals.{IsText-changed, large_edit, passed_on, text_made}

@@ -1,4 +1,5 @@
-use Rattle.docs.proofs.Common.{arith, fits_from}
+use Rattle.docs.proofs.Std.{arith}
+use Rattle.docs.proofs.Common.{fits_from}
 use Rattle.docs.proofs.pending.Pending.new.Goals as goal
 
 pub returns-clause-fits : goal.returns-clause-fits

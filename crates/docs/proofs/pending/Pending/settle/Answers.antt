@@ -1,4 +1,5 @@
-use Rattle.docs.proofs.Common.{◌≡◌, ◌≤◌, arith, ap, refl, length, sym, subst, rules, Option, MatchOption, Edit, IsSettled, LeadsTo}
+use Rattle.docs.proofs.Std.{◌≡◌, ◌≤◌, arith, ap, refl, length, sym, subst, rules, Option, MatchOption}
+use Rattle.docs.proofs.Common.{Edit, IsSettled, LeadsTo}
 use Rattle.docs.proofs.pending.Pending.settle.Goals as goal
 
 pub settle-requires : goal.settle-requires

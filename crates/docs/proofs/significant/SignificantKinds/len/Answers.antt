@@ -1,4 +1,5 @@
-use Rattle.docs.proofs.Common.{sym, ◌∙◌, filter, length-map, length-filter, is_significant, kind_in}
+use Rattle.docs.proofs.Std.{sym, ◌∙◌, filter, length-map, length-filter}
+use Rattle.docs.proofs.Common.{is_significant, kind_in}
 use Rattle.docs.proofs.significant.SignificantKinds.len.Goals as goal
 
 pub returns : goal.returns

@@ -1,4 +1,5 @@
-use Rattle.frames.proofs.Common.{◌≡◌, ℕ, List, [], ◌++◌, sym, subst, refl, ap, ◌∙◌, IfOk-weaker, IfErr-weaker, Frame, Memory, contents, Open, Splits, tail_of, IsDecoder}
+use Rattle.frames.proofs.Std.{◌≡◌, ℕ, List, [], ◌++◌, sym, subst, refl, ap, ◌∙◌, IfOk-weaker, IfErr-weaker}
+use Rattle.frames.proofs.Common.{Frame, Memory, contents, Open, Splits, tail_of, IsDecoder}
 use Rattle.frames.proofs.LongerStreams.{goes_on_from, some_going_on}
 use Rattle.frames.proofs.PrefixDecides.{fault_is, reached_fault}
 use Rattle.frames.proofs.KeptBytes.{fault_goes_on, open_goes_on, open_has_no_fault, no_fault_is_open, reached, not_err_of}

@@ -1,4 +1,5 @@
-use Rattle.frames.proofs.Common.{subst, sym, ap, ◌∙◌, ◌≡◌, rules, Faulty, IsCut, tail_of}
+use Rattle.frames.proofs.Std.{subst, sym, ap, ◌∙◌, ◌≡◌, rules}
+use Rattle.frames.proofs.Common.{Faulty, IsCut, tail_of}
 use Rattle.frames.proofs.PrefixDecides.{fault_is}
 use Rattle.frames.proofs.decoder.Decoder.finish.Goals as goal
 

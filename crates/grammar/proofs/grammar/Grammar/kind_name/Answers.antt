@@ -1,4 +1,5 @@
-use Rattle.grammar.proofs.Common.{◌≡◌, refl, ◌∙◌, sym, ap, ℕ, List, [], ◌∷◌, kind_name, Invalid}
+use Rattle.grammar.proofs.Std.{◌≡◌, refl, ◌∙◌, sym, ap, ℕ, List, [], ◌∷◌}
+use Rattle.grammar.proofs.Common.{kind_name, Invalid}
 use Rattle.std.proofs.Common.{rules}
 use Rattle.std.specs.Str.{chars}
 use Rattle.grammar.proofs.grammar.Grammar.kind_name.Goals as goal

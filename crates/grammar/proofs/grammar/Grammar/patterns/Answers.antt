@@ -1,4 +1,5 @@
-use Rattle.grammar.proofs.Common.{◌≤◌, arith, length, subst, FileGrammar}
+use Rattle.grammar.proofs.Std.{◌≤◌, arith, length, subst}
+use Rattle.grammar.proofs.Common.{FileGrammar}
 use Rattle.std.proofs.Common.{rules}
 use Rattle.grammar.proofs.grammar.Grammar.patterns.Goals as goal
 

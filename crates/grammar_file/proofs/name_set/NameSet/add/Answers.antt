@@ -1,4 +1,5 @@
-use Rattle.grammar_file.proofs.Common.{◌∙◌, ap, with_name, texts}
+use Rattle.grammar_file.proofs.Std.{◌∙◌, ap}
+use Rattle.grammar_file.proofs.Common.{with_name, texts}
 use Rattle.grammar_file.proofs.NameLookUps.{keys-with}
 use Rattle.grammar_file.proofs.name_set.NameSet.add.Goals as goal
 use Rattle.grammar_file.proofs.name_set.NameSet.add.Goals.{in-Ok, in-Err}

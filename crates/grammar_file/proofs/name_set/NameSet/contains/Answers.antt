@@ -1,4 +1,5 @@
-use Rattle.grammar_file.proofs.Common.{◌∙◌, ap, is_among}
+use Rattle.grammar_file.proofs.Std.{◌∙◌, ap}
+use Rattle.grammar_file.proofs.Common.{is_among}
 use Rattle.grammar_file.proofs.NameLookUps.{among-keys}
 use Rattle.grammar_file.proofs.name_set.NameSet.contains.Goals as goal
 

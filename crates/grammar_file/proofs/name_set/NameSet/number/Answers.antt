@@ -1,4 +1,5 @@
-use Rattle.grammar_file.proofs.Common.{◌∙◌, ap, unwrap_or, number_of}
+use Rattle.grammar_file.proofs.Std.{◌∙◌, ap, unwrap_or}
+use Rattle.grammar_file.proofs.Common.{number_of}
 use Rattle.grammar_file.proofs.NameLookUps.{number-keys}
 use Rattle.grammar_file.proofs.name_set.NameSet.number.Goals as goal
 

@@ -1,4 +1,5 @@
-use Rattle.grammar_file.proofs.Common.{◌∙◌, ap, map, texts, with_names}
+use Rattle.grammar_file.proofs.Std.{◌∙◌, ap, map}
+use Rattle.grammar_file.proofs.Common.{texts, with_names}
 use Rattle.grammar_file.proofs.Sets.{keys-with}
 use Rattle.grammar_file.proofs.production_set.ProductionSet.add.Goals as goal
 use Rattle.grammar_file.proofs.production_set.ProductionSet.add.Goals.{in-Ok, in-Err}

@@ -1,4 +1,5 @@
-use Rattle.grammar_file.proofs.Common.{◌∙◌, ap, list_any, bytes_eq, pointwise, are_among}
+use Rattle.grammar_file.proofs.Std.{◌∙◌, ap, list_any, bytes_eq, pointwise}
+use Rattle.grammar_file.proofs.Common.{are_among}
 use Rattle.grammar_file.proofs.Sets.{among-keys}
 use Rattle.grammar_file.proofs.production_set.ProductionSet.contains.Goals as goal
 

@@ -1,4 +1,4 @@
-use Rattle.grammar_file.proofs.Common.{arith, common_steps}
+use Rattle.grammar_file.proofs.Std.{arith, common_steps}
 use Rattle.grammar_file.proofs.rules.Rules.add.Goals as goal
 
 pub invariant_of-self-2 : goal.invariant_of-self-2

@@ -1,4 +1,4 @@
-use Rattle.grammar_file.proofs.Common.{◌∙◌, ap, sym, map, is_some, list_any, bytes_eq}
+use Rattle.grammar_file.proofs.Std.{◌∙◌, ap, sym, map, is_some, list_any, bytes_eq}
 use Rattle.grammar_file.proofs.NameLookUps.{is_some-position}
 use Rattle.grammar_file.proofs.TestedItems.{list_any-map}
 use Rattle.grammar_file.proofs.rules.Rules.contains.Goals as goal

@@ -1,4 +1,5 @@
-use Rattle.grammar_file.proofs.Common.{◌∙◌, ap, sym, map, unwrap_or, length-map, bytes_eq, number_of}
+use Rattle.grammar_file.proofs.Std.{◌∙◌, ap, sym, map, unwrap_or, length-map, bytes_eq}
+use Rattle.grammar_file.proofs.Common.{number_of}
 use Rattle.grammar_file.proofs.TestedItems.{place-map}
 use Rattle.grammar_file.proofs.rules.Rules.number.Goals as goal
 

@@ -1,4 +1,4 @@
-use Rattle.grammar_file.proofs.Common.{IfSome_then, err_from_is_err_and}
+use Rattle.grammar_file.proofs.Std.{IfSome_then, err_from_is_err_and}
 use Rattle.grammar_file.proofs.Splits.{read_more, first_line_fault}
 use Rattle.grammar_file.proofs.statements.File.add_lines.Goals as goal
 

@@ -1,4 +1,5 @@
-use Rattle.grammar_file.proofs.Common.{refl, sym, ap, ◌∙◌, ◌++◌, ◌∷◌, [], subst, at, IfSome_then, MatchResult-weaker, defines, limit_fault, line_view, lines_view, AreNames}
+use Rattle.grammar_file.proofs.Std.{refl, sym, ap, ◌∙◌, ◌++◌, ◌∷◌, [], subst, IfSome_then, MatchResult-weaker}
+use Rattle.grammar_file.proofs.Common.{at, defines, limit_fault, line_view, lines_view, AreNames}
 use Rattle.grammar_file.proofs.Lines.{read-step, limit_line_fault}
 use Rattle.grammar_file.proofs.statements.File.add_statement.Goals as goal
 

@@ -1,4 +1,5 @@
-use Rattle.grammar_file.proofs.Common.{IfSome_then, err_from_is_err_and, line_view, lines_view, IsLineFault, ReportsCause}
+use Rattle.grammar_file.proofs.Std.{IfSome_then, err_from_is_err_and}
+use Rattle.grammar_file.proofs.Common.{line_view, lines_view, IsLineFault, ReportsCause}
 use Rattle.grammar_file.proofs.Lines.{late-own, late_line_fault}
 use Rattle.grammar_file.proofs.statements.File.test.Goals as goal
 

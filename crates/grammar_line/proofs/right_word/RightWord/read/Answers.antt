@@ -1,4 +1,4 @@
-use Rattle.grammar_line.proofs.Common.{arith, refl, None, Some, strip_suffix_char}
+use Rattle.grammar_line.proofs.Std.{arith, refl, None, Some, strip_suffix_char}
 use Rattle.grammar_line.proofs.Marked.{marked-by, unmarked-by}
 use Rattle.grammar_line.proofs.right_word.RightWord.read.Goals as goal
 

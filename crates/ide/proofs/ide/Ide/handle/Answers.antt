@@ -1,4 +1,5 @@
-use Rattle.ide.proofs.Common.{◌≡◌, Some, ap, refl, subst, sym, ◌∙◌, asked_in, option_map, own_of, question_id, Ident}
+use Rattle.ide.proofs.Std.{◌≡◌, Some, ap, refl, subst, sym, ◌∙◌, option_map}
+use Rattle.ide.proofs.Common.{asked_in, own_of, question_id, Ident}
 use Rattle.std.specs.Prelude.{option_and_then}
 use Rattle.std.proofs.lemmas.Result.{IfOk-weaker}
 use Rattle.readings.proofs.Results.{if_ok_both}

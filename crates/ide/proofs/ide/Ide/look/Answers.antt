@@ -1,4 +1,5 @@
-use Rattle.ide.proofs.Common.{ap, sym, subst, ◌∙◌, map, message_view, state_of, option_map}
+use Rattle.ide.proofs.Std.{ap, sym, subst, ◌∙◌, map, option_map}
+use Rattle.ide.proofs.Common.{message_view, state_of}
 use Rattle.std.specs.Prelude.{IfOk}
 use Rattle.server.specs.States.{state_view}
 use Rattle.ide.specs.Servers.{written_view}

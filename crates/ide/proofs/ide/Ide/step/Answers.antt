@@ -1,4 +1,5 @@
-use Rattle.ide.proofs.Common.{refl, map, message_view, state_of, IdeState, ◌∙◌}
+use Rattle.ide.proofs.Std.{refl, map, ◌∙◌}
+use Rattle.ide.proofs.Common.{message_view, state_of, IdeState}
 use Rattle.replies.specs.Replies.{reply_view}
 use Rattle.rpc.specs.Messages.{received_of}
 use Rattle.server.specs.States.{state_view}

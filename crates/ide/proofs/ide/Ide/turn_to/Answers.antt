@@ -1,4 +1,5 @@
-use Rattle.ide.proofs.Common.{◌≡◌, refl, subst, sym, map, message_view, state_of, None, rules}
+use Rattle.ide.proofs.Std.{◌≡◌, refl, subst, sym, map, None, rules}
+use Rattle.ide.proofs.Common.{message_view, state_of}
 use Rattle.std.proofs.lemmas.Result.{IfOk-weaker}
 use Rattle.replies.specs.Replies.{reply_view}
 use Rattle.server.specs.States.{state_view}

@@ -1,4 +1,5 @@
-use Rattle.ide.proofs.Common.{map, message_view, state_of, ap, option_map, Option}
+use Rattle.ide.proofs.Std.{map, ap, option_map, Option}
+use Rattle.ide.proofs.Common.{message_view, state_of}
 use Rattle.std.proofs.lemmas.Result.{IfOk-weaker}
 use Rattle.ide.specs.Servers.{written_view}
 use Rattle.ide.specs.Written.{Language}

@@ -1,4 +1,5 @@
-use Rattle.item_sets.proofs.Common.{◌∷◌, ◌++◌, ◌<◌, [], length, sym, ◌∙◌, subst, ⊎_elim, arith, eqb-true, eqb-false, cases_lt, HasKernel}
+use Rattle.item_sets.proofs.Std.{◌∷◌, ◌++◌, ◌<◌, [], length, sym, ◌∙◌, subst, ⊎_elim, arith, eqb-true, eqb-false, cases_lt}
+use Rattle.item_sets.proofs.Common.{HasKernel}
 use Rattle.item_sets.proofs.AddedKernels.{placed_goes_on, placed_states, no_item}
 use Rattle.item_sets.proofs.collection.States.goto.Goals as goal
 

@@ -1,4 +1,5 @@
-use Rattle.item_sets.proofs.Common.{◌≡◌, ◌<◌, ◌+◌, ◌∷◌, ◌++◌, [], length, length-append, slice_index_or, ap, sym, ◌∙◌, subst, arith, get_or_default, IsStep, IsOrdered, HasKernel, symbol_of}
+use Rattle.item_sets.proofs.Std.{◌≡◌, ◌<◌, ◌+◌, ◌∷◌, ◌++◌, [], length, length-append, slice_index_or, ap, sym, ◌∙◌, subst, arith, get_or_default}
+use Rattle.item_sets.proofs.Common.{IsStep, IsOrdered, HasKernel, symbol_of}
 use Rattle.item_sets.proofs.GotosGrow.{goes_on_trans, steps_more}
 use Rattle.item_sets.proofs.collection.States.gotos.Goals as goal
 

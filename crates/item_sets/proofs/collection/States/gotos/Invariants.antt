@@ -1,4 +1,5 @@
-use Rattle.item_sets.proofs.Common.{◌≡◌, ◌<◌, ℕ, None, length, slice_index_or, AreStates, GoesOn, IsStep, symbol_of}
+use Rattle.item_sets.proofs.Std.{◌≡◌, ◌<◌, ℕ, None, length, slice_index_or}
+use Rattle.item_sets.proofs.Common.{AreStates, GoesOn, IsStep, symbol_of}
 use Rattle.item_sets.proofs.collection.States.gotos.Given as goal
 
 abbrev pub invariant-loop-kernel : goal.invariant-loop-kernel

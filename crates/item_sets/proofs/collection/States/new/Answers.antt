@@ -1,4 +1,5 @@
-use Rattle.item_sets.proofs.Common.{◌≡◌, ◌∷◌, ◌++◌, [], None, ap, ◌∙◌, length, Nonterminal, Item, Origin}
+use Rattle.item_sets.proofs.Std.{◌≡◌, ◌∷◌, ◌++◌, [], None, ap, ◌∙◌, length}
+use Rattle.item_sets.proofs.Common.{Nonterminal, Item, Origin}
 use Rattle.item_sets.proofs.AddedKernels.{start_states, first_placed}
 use Rattle.item_sets.proofs.collection.States.new.Goals.{After-drop-kernel-2}
 use Rattle.item_sets.proofs.collection.States.new.Goals as goal

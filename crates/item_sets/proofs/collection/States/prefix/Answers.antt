@@ -1,4 +1,5 @@
-use Rattle.item_sets.proofs.Common.{◌≡◌, ◌∷◌, ◌++◌, [], length, reverse, ap, sym, ◌∙◌, subst, arith, append_assoc, get_or_default, reverse-append, Terminal, Origin, kernel_at, origin_at, HasKernel}
+use Rattle.item_sets.proofs.Std.{◌≡◌, ◌∷◌, ◌++◌, [], length, reverse, ap, sym, ◌∙◌, subst, arith, append_assoc, get_or_default, reverse-append}
+use Rattle.item_sets.proofs.Common.{Terminal, Origin, kernel_at, origin_at, HasKernel}
 use Rattle.item_sets.proofs.FirstKernel.{start_item, start_kernel}
 use Rattle.item_sets.proofs.collection.States.prefix.Goals as goal
 

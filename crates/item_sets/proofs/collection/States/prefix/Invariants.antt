@@ -1,4 +1,5 @@
-use Rattle.item_sets.proofs.Common.{◌<◌, ◌++◌, List, length, reverse, Symbol, kernel_at, HasKernel}
+use Rattle.item_sets.proofs.Std.{◌<◌, ◌++◌, List, length, reverse}
+use Rattle.item_sets.proofs.Common.{Symbol, kernel_at, HasKernel}
 use Rattle.item_sets.proofs.collection.States.prefix.Given as goal
 
 abbrev pub invariant-loop-at : goal.invariant-loop-at

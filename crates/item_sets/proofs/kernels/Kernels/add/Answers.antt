@@ -1,4 +1,4 @@
-use Rattle.item_sets.proofs.Common.{refl, length-map, arith}
+use Rattle.item_sets.proofs.Std.{refl, length-map, arith}
 use Rattle.item_sets.proofs.VectorSets.{items_of, found_items, list_after}
 use Rattle.item_sets.proofs.kernels.Kernels.add.Goals as goal
 use Rattle.item_sets.proofs.kernels.Kernels.add.Goals.{in-Ok, in-Err}

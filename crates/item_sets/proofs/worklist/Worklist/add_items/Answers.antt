@@ -1,4 +1,5 @@
-use Rattle.item_sets.proofs.Common.{◌≡◌, ◌∷◌, ◌++◌, [], Some, ap, sym, arith, ◌∙◌, left_of, marked, beginning_of}
+use Rattle.item_sets.proofs.Std.{◌≡◌, ◌∷◌, ◌++◌, [], Some, ap, sym, arith, ◌∙◌}
+use Rattle.item_sets.proofs.Common.{left_of, marked, beginning_of}
 use Rattle.item_sets.proofs.Beginnings.{one_more, no_more, next_production}
 use Rattle.item_sets.proofs.worklist.Worklist.add_items.Goals as goal
 use Rattle.item_sets.proofs.worklist.Worklist.add_items.Goals.{then-has+in_ok-push, else-has}

@@ -1,4 +1,5 @@
-use Rattle.item_sets.proofs.Common.{List, Item, HaveBeginnings}
+use Rattle.item_sets.proofs.Std.{List}
+use Rattle.item_sets.proofs.Common.{Item, HaveBeginnings}
 use Rattle.item_sets.proofs.worklist.Worklist.add_items.Given as goal
 
 abbrev pub invariant-loop-column : goal.invariant-loop-column

@@ -1,4 +1,5 @@
-use Rattle.item_sets.proofs.Common.{◌≡◌, ◌<◌, ◌+◌, ℕ, arith, length, slice_index_or, ap, subst, ◌∙◌, ⊎_elim, inl, inr, cases_eq, get_or_default, right_of, lookahead_at, CallFor, IsGrownBy}
+use Rattle.item_sets.proofs.Std.{◌≡◌, ◌<◌, ◌+◌, ℕ, arith, length, slice_index_or, ap, subst, ◌∙◌, ⊎_elim, inl, inr, cases_eq, get_or_default}
+use Rattle.item_sets.proofs.Common.{right_of, lookahead_at, CallFor, IsGrownBy}
 use Rattle.item_sets.proofs.Grown.{grown_twice}
 use Rattle.item_sets.proofs.worklist.Worklist.expand.Goals as goal
 

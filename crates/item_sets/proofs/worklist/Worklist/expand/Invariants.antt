@@ -1,4 +1,5 @@
-use Rattle.item_sets.proofs.Common.{◌<◌, ℕ, slice_index_or, right_of, lookahead_at, IsGrownBy, CallFor}
+use Rattle.item_sets.proofs.Std.{◌<◌, ℕ, slice_index_or}
+use Rattle.item_sets.proofs.Common.{right_of, lookahead_at, IsGrownBy, CallFor}
 use Rattle.item_sets.proofs.worklist.Worklist.expand.Given as goal
 
 abbrev pub invariant-loop-p : goal.invariant-loop-p

@@ -1,4 +1,4 @@
-use Rattle.item_sets.proofs.Common.{◌≡◌, ◌↔◌, ◌<◌, ℕ, Bool, false, IsTrue, List, [], length, slice_index_or, sym, subst, ap, ◌∙◌, get_or_default}
+use Rattle.item_sets.proofs.Std.{◌≡◌, ◌↔◌, ◌<◌, ℕ, Bool, false, IsTrue, List, [], length, slice_index_or, sym, subst, ap, ◌∙◌, get_or_default}
 use Rattle.item_sets.proofs.worklist.Worklist.has_none.Goals as goal
 
 pub returns : goal.returns

@@ -1,4 +1,5 @@
-use Rattle.item_sets.proofs.Common.{rules, ◌≡◌, ◌<◌, ◌≤◌, true, length, slice_index_or, ap, sym, subst, ⊎_elim, arith, ◌∙◌, cases_eq, get_or_default, Contains-get_or, Entry, after_dot, Kernel, marked, AreMarked, CallFor, IsExpanded}
+use Rattle.item_sets.proofs.Std.{rules, ◌≡◌, ◌<◌, ◌≤◌, true, length, slice_index_or, ap, sym, subst, ⊎_elim, arith, ◌∙◌, cases_eq, get_or_default, Contains-get_or}
+use Rattle.item_sets.proofs.Common.{Entry, after_dot, Kernel, marked, AreMarked, CallFor, IsExpanded}
 use Rattle.item_sets.proofs.FirstKernel.{start_item}
 use Rattle.item_sets.proofs.InRange.{all_marked}
 use Rattle.item_sets.proofs.WorklistIsRight.{expanded_called}

@@ -1,4 +1,5 @@
-use Rattle.item_sets.proofs.Common.{◌≡◌, ◌<◌, ◌≤◌, ◌+◌, ◌-◌, ℕ, true, All, length, slice_index_or, Entry, after_dot, marked, AreMarked, CallFor, IsCalledFor, IsExpanded, IsGrownBy, unmarked_in}
+use Rattle.item_sets.proofs.Std.{◌≡◌, ◌<◌, ◌≤◌, ◌+◌, ◌-◌, ℕ, true, All, length, slice_index_or}
+use Rattle.item_sets.proofs.Common.{Entry, after_dot, marked, AreMarked, CallFor, IsCalledFor, IsExpanded, IsGrownBy, unmarked_in}
 use Rattle.item_sets.proofs.FirstKernel.{start_item}
 use Rattle.item_sets.proofs.worklist.Worklist.insert_all.Given as goal
 

@@ -1,4 +1,5 @@
-use Rattle.item_sets.proofs.Common.{rules, ◌≡◌, ℕ, ◌↔◌, on_ok_weaker, MayFollow, lookahead_at}
+use Rattle.item_sets.proofs.Std.{rules, ◌≡◌, ℕ, ◌↔◌, on_ok_weaker}
+use Rattle.item_sets.proofs.Common.{MayFollow, lookahead_at}
 use Rattle.item_sets.proofs.worklist.Worklist.insert_before.Goals as goal
 
 pub returns-in-Some : goal.returns-in-Some

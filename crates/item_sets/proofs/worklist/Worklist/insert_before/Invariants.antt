@@ -1,4 +1,5 @@
-use Rattle.item_sets.proofs.Common.{◌≡◌, ◌<◌, MayFollow, lookahead_at, IsGrownBy}
+use Rattle.item_sets.proofs.Std.{◌≡◌, ◌<◌}
+use Rattle.item_sets.proofs.Common.{MayFollow, lookahead_at, IsGrownBy}
 use Rattle.item_sets.proofs.worklist.Worklist.insert_before.Given as goal
 
 abbrev pub invariant-loop-column : goal.invariant-loop-column

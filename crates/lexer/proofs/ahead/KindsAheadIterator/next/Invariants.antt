@@ -1,4 +1,5 @@
-use Rattle.lexer.proofs.Common.{◌≡◌, length, significant_kinds}
+use Rattle.lexer.proofs.Std.{◌≡◌, length}
+use Rattle.lexer.proofs.Common.{significant_kinds}
 use Rattle.lexer.proofs.ahead.KindsAheadIterator.next.Given as goal
 
 -- only skipped tokens were passed

@@ -1,4 +1,5 @@
-use Rattle.lexer.proofs.Common.{rules, arith, subst, ◌≡◌, slice_index_or, true, IsCharacter-from_scalar, IsCharacter}
+use Rattle.lexer.proofs.Std.{rules, arith, subst, ◌≡◌, slice_index_or, true}
+use Rattle.lexer.proofs.Common.{IsCharacter-from_scalar, IsCharacter}
 use Rattle.lexer.proofs.Passes.{none_passed, one_more_passed}
 use Rattle.lexer.proofs.characters.BytesSource.pass.Goals as goal
 

@@ -1,4 +1,5 @@
-use Rattle.lexer.proofs.Common.{length, ◌-◌, true, IsCharacter}
+use Rattle.lexer.proofs.Std.{length, ◌-◌, true}
+use Rattle.lexer.proofs.Common.{IsCharacter}
 use Rattle.lexer.proofs.Passes.{ArePassed}
 use Rattle.lexer.proofs.characters.CharactersSource.pass.Given as goal
 

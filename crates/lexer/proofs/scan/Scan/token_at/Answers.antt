@@ -1,4 +1,5 @@
-use Rattle.lexer.proofs.Common.{drop, subst, sym, IsPiece, IsToken, IsAutomaton, Lexicon, Token, plain}
+use Rattle.lexer.proofs.Std.{drop, subst, sym}
+use Rattle.lexer.proofs.Common.{IsPiece, IsToken, IsAutomaton, Lexicon, Token, plain}
 use Rattle.lexer.proofs.Scans.{rule_fits}
 use Rattle.lexer.proofs.scan.Scan.token_at.Goals as goal
 

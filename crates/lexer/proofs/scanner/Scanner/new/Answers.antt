@@ -1,4 +1,5 @@
-use Rattle.lexer.proofs.Common.{subst, sym, HasMoreStatesThan}
+use Rattle.lexer.proofs.Std.{subst, sym}
+use Rattle.lexer.proofs.Common.{HasMoreStatesThan}
 use Rattle.lexer.proofs.scanner.Scanner.new.Goals as goal
 
 pub returns-in-Ok-clause-few : goal.returns-in-Ok-clause-few

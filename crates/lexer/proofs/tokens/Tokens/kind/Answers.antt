@@ -1,4 +1,5 @@
-use Rattle.lexer.proofs.Common.{arith, sym, ap, ◌∙◌, ◌≡◌, ◌<◌, Some, length, slice_get, option_copied, slice_get_past, slice_get-get_or, Invalid, significant_kinds}
+use Rattle.lexer.proofs.Std.{arith, sym, ap, ◌∙◌, ◌≡◌, ◌<◌, Some, length, slice_get, option_copied, slice_get_past, slice_get-get_or}
+use Rattle.lexer.proofs.Common.{Invalid, significant_kinds}
 use Rattle.lexer.proofs.SignificantKinds.{kind_at, get_none, length-kinds}
 use Rattle.lexer.proofs.tokens.Tokens.kind.Goals as goal
 

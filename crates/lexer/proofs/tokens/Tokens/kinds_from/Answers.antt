@@ -1,4 +1,5 @@
-use Rattle.lexer.proofs.Common.{arith, ap, sym, ◌∙◌, ◌≡◌, inl, inr, drop, count_by, cases_lt, drop_all, significant_kinds, is_significant}
+use Rattle.lexer.proofs.Std.{arith, ap, sym, ◌∙◌, ◌≡◌, inl, inr, drop, count_by, cases_lt, drop_all}
+use Rattle.lexer.proofs.Common.{significant_kinds, is_significant}
 use Rattle.lexer.proofs.SignificantKinds.{kinds_after, length-kinds}
 use Rattle.lexer.proofs.Totals.{significant_before, none_past}
 use Rattle.lexer.proofs.tokens.Tokens.kinds_from.Goals as goal

@@ -1,4 +1,5 @@
-use Rattle.lexer.proofs.Common.{◌≡◌, ◌+◌, suc, List, drop, ap, subst, ◌∙◌, arith, YieldsFirst, Kind, significant_kinds}
+use Rattle.lexer.proofs.Std.{◌≡◌, ◌+◌, suc, List, drop, ap, subst, ◌∙◌, arith, YieldsFirst}
+use Rattle.lexer.proofs.Common.{Kind, significant_kinds}
 use Rattle.lexer.proofs.SignificantKinds.{next_of}
 use Rattle.lexer.proofs.tokens.Tokens.next_kind.Goals as goal
 

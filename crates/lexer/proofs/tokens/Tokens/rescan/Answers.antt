@@ -1,4 +1,5 @@
-use Rattle.lexer.proofs.Common.{arith, rules, vec_len, sym, ap, subst, ◌≡◌, ◌∙◌, ℕ, ◌≤◌, List, ◌++◌, length, take, drop, length-append, length-drop, lexicon_of, length-take, append_assoc, Edit, plain_splice, Splice, Lexicon, Token, Fits, TokenList, change, significant_kinds, IsEdited, IsRemade, AreTokensAfter}
+use Rattle.lexer.proofs.Std.{arith, rules, vec_len, sym, ap, subst, ◌≡◌, ◌∙◌, ℕ, ◌≤◌, List, ◌++◌, length, take, drop, length-append, length-drop, length-take, append_assoc}
+use Rattle.lexer.proofs.Common.{lexicon_of, Edit, plain_splice, Splice, Lexicon, Token, Fits, TokenList, change, significant_kinds, IsEdited, IsRemade, AreTokensAfter}
 use Rattle.lexer.proofs.Totals.{few}
 use Rattle.lexer.proofs.Rescanned.{prefix_to, remade_fits, remade_after}
 use Rattle.lexer.proofs.tokens.Tokens.rescan.Goals.{In_ok-made, In_ok-replace}

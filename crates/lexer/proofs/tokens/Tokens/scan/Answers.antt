@@ -1,4 +1,5 @@
-use Rattle.lexer.proofs.Common.{◌≡◌, ◌++◌, ◌∙◌, List, ap, arith, length, subst, lexicon_of, AreNext, Token}
+use Rattle.lexer.proofs.Std.{◌≡◌, ◌++◌, ◌∙◌, List, ap, arith, length, subst}
+use Rattle.lexer.proofs.Common.{lexicon_of, AreNext, Token}
 use Rattle.lexer.proofs.Scans.{next_all, next_few, next_join}
 use Rattle.lexer.proofs.tokens.Tokens.scan.Goals as goal
 

@@ -1,4 +1,5 @@
-use Rattle.lexer.proofs.Common.{◌-◌, length, AreNext}
+use Rattle.lexer.proofs.Std.{◌-◌, length}
+use Rattle.lexer.proofs.Common.{AreNext}
 use Rattle.lexer.proofs.tokens.Tokens.scan.Given as goal
 
 abbrev pub invariant-loop-at : goal.invariant-loop-at

@@ -1,4 +1,5 @@
-use Rattle.lexer.proofs.Common.{arith, inr, ap, subst, ◌∙◌, ◌∷◌, length, IsWalk}
+use Rattle.lexer.proofs.Std.{arith, inr, ap, subst, ◌∙◌, ◌∷◌, length}
+use Rattle.lexer.proofs.Common.{IsWalk}
 use Rattle.lexer.proofs.Totals.{few}
 use Rattle.lexer.proofs.Walks.{walk_on, passed_on, at_end}
 use Rattle.lexer.proofs.walk.Walk.go_to.Goals as goal

@@ -1,4 +1,5 @@
-use Rattle.lexer.proofs.Common.{◌≡◌, length, IsWalk, IsPassed}
+use Rattle.lexer.proofs.Std.{◌≡◌, length}
+use Rattle.lexer.proofs.Common.{IsWalk, IsPassed}
 use Rattle.lexer.proofs.walk.Walk.go_to.Given as goal
 
 abbrev pub invariant-loop-self : goal.invariant-loop-self

@@ -1,4 +1,5 @@
-use Rattle.lexer.proofs.Common.{arith, sym, ap, subst, ◌≡◌, ◌⊎◌, ◌≤◌, ◌∙◌, length, take, characters, Fits, IsPassed}
+use Rattle.lexer.proofs.Std.{arith, sym, ap, subst, ◌≡◌, ◌⊎◌, ◌≤◌, ◌∙◌, length, take}
+use Rattle.lexer.proofs.Common.{characters, Fits, IsPassed}
 use Rattle.lexer.proofs.Walks.{starts_nowhere}
 use Rattle.lexer.proofs.walk.Walk.place_of.Goals as goal
 use Rattle.lexer.proofs.walk.Walk.place_of.Goals.{then-self-offset, else-self-offset}

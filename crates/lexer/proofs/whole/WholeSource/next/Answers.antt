@@ -1,4 +1,4 @@
-use Rattle.lexer.proofs.Common.{◌≡◌, ◌+◌, suc, drop, length, length-drop, ap, sym, ◌∙◌, arith, drop-cons, tail-eq_of_cons-eq}
+use Rattle.lexer.proofs.Std.{◌≡◌, ◌+◌, suc, drop, length, length-drop, ap, sym, ◌∙◌, arith, drop-cons, tail-eq_of_cons-eq}
 use Rattle.lexer.proofs.whole.WholeSource.next.Goals as goal
 
 pub unreachable-requires : goal.unreachable-requires

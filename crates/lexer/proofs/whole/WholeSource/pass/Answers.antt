@@ -1,4 +1,4 @@
-use Rattle.lexer.proofs.Common.{arith, common_steps}
+use Rattle.lexer.proofs.Std.{arith, common_steps}
 use Rattle.lexer.proofs.whole.WholeSource.pass.Goals as goal
 
 pub returns-clause-moved : goal.returns-clause-moved

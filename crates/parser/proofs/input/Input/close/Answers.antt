@@ -1,4 +1,5 @@
-use Rattle.parser.proofs.Common.{subst, BeginsWith}
+use Rattle.parser.proofs.Std.{subst}
+use Rattle.parser.proofs.Common.{BeginsWith}
 use Rattle.parser.proofs.Inputs.{begins_none, still_empty}
 use Rattle.parser.proofs.input.Input.close.Goals as goal
 

@@ -1,4 +1,5 @@
-use Rattle.parser.proofs.Common.{◌≡◌, ◌<◌, ◌-◌, length, take, get_or, sym, ◌∙◌, rules, backwards}
+use Rattle.parser.proofs.Std.{◌≡◌, ◌<◌, ◌-◌, length, take, get_or, sym, ◌∙◌, rules}
+use Rattle.parser.proofs.Common.{backwards}
 use Rattle.parser.proofs.Lists.{backwards-last}
 use Rattle.parser.proofs.input.Input.first.Goals as goal
 

@@ -1,4 +1,5 @@
-use Rattle.parser.proofs.Common.{◌-◌, ◌≤◌, length, drop, ap, ◌∙◌, arith, backwards}
+use Rattle.parser.proofs.Std.{◌-◌, ◌≤◌, length, drop, ap, ◌∙◌, arith}
+use Rattle.parser.proofs.Common.{backwards}
 use Rattle.parser.proofs.Lists.{backwards-take, backwards-length}
 use Rattle.parser.proofs.input.Input.keep.Goals as goal
 

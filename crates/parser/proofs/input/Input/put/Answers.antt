@@ -1,4 +1,5 @@
-use Rattle.parser.proofs.Common.{◌∷◌, ap, ◌∙◌, backwards}
+use Rattle.parser.proofs.Std.{◌∷◌, ap, ◌∙◌}
+use Rattle.parser.proofs.Common.{backwards}
 use Rattle.parser.proofs.Lists.{backwards-push}
 use Rattle.parser.proofs.input.Input.put.Goals as goal
 

@@ -1,4 +1,5 @@
-use Rattle.parser.proofs.Common.{◌≡◌, ◌<◌, ◌∷◌, ◌++◌, length, refl, sym, ap, ◌∙◌, subst, arith, all_kinds, yield, plain, Child, NodeId, Node, Token, AreBelow, tree, all_below-more, backwards, plain_of, nil_from_length}
+use Rattle.parser.proofs.Std.{◌≡◌, ◌<◌, ◌∷◌, ◌++◌, length, refl, sym, ap, ◌∙◌, subst, arith, nil_from_length}
+use Rattle.parser.proofs.Common.{all_kinds, yield, plain, Child, NodeId, Node, Token, AreBelow, tree, all_below-more, backwards, plain_of}
 use Rattle.parser.proofs.Inputs.{none_counted}
 use Rattle.parser.proofs.Lists.{backwards-push}
 use Rattle.parser.proofs.SecondKind.{second_of}

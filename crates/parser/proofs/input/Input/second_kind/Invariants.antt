@@ -1,4 +1,5 @@
-use Rattle.parser.proofs.Common.{◌≡◌, length, all_kinds, AreBelow, backwards, plain_of}
+use Rattle.parser.proofs.Std.{◌≡◌, length}
+use Rattle.parser.proofs.Common.{all_kinds, AreBelow, backwards, plain_of}
 use Rattle.parser.proofs.input.Input.second_kind.Given as goal
 
 -- only trees of no kinds were passed

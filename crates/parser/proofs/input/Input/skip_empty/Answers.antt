@@ -1,4 +1,5 @@
-use Rattle.parser.proofs.Common.{length, ◌≡◌, arith, sym, subst, ◌∙◌, yield, plain, AreBelow, tree}
+use Rattle.parser.proofs.Std.{length, ◌≡◌, arith, sym, subst, ◌∙◌}
+use Rattle.parser.proofs.Common.{yield, plain, AreBelow, tree}
 use Rattle.parser.proofs.Inputs.{below-gone, none_counted, skips_one, taken}
 use Rattle.parser.proofs.input.Input.skip_empty.Goals as goal
 

@@ -1,4 +1,5 @@
-use Rattle.parser.proofs.Common.{length, Skips}
+use Rattle.parser.proofs.Std.{length}
+use Rattle.parser.proofs.Common.{Skips}
 use Rattle.parser.proofs.input.Input.skip_empty.Given as goal
 
 abbrev pub invariant-empty : goal.invariant-empty

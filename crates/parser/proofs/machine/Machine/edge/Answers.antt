@@ -1,4 +1,5 @@
-use Rattle.parser.proofs.Common.{◌≡◌, [], None, subst, sym, ◌∙◌, Next, IsInput, plain_of, IsEdge}
+use Rattle.parser.proofs.Std.{◌≡◌, [], None, subst, sym, ◌∙◌}
+use Rattle.parser.proofs.Common.{Next, IsInput, plain_of, IsEdge}
 use Rattle.parser.proofs.Edges.{none_counted, no_trees}
 use Rattle.parser.proofs.Running.{skipped_on}
 use Rattle.parser.proofs.machine.Machine.edge.Goals as goal

@@ -1,4 +1,5 @@
-use Rattle.parser.proofs.Common.{◌≡◌, ◌<◌, ◌∷◌, ◌++◌, [], ◌+◌, drop, length, refl, sym, ap, ◌∙◌, subst, arith, rules, yield, plain, plain_all, Node, Token, AreBelow, all_trees, tree, all_below-more, CanReuse, Tries, plain_of, input_of, IsInput, BeginsWithNoNode, ComeFrom, common_steps, nil_from_length}
+use Rattle.parser.proofs.Std.{◌≡◌, ◌<◌, ◌∷◌, ◌++◌, [], ◌+◌, drop, length, refl, sym, ap, ◌∙◌, subst, arith, rules, common_steps, nil_from_length}
+use Rattle.parser.proofs.Common.{yield, plain, plain_all, Node, Token, AreBelow, all_trees, tree, all_below-more, CanReuse, Tries, plain_of, input_of, IsInput, BeginsWithNoNode, ComeFrom}
 use Rattle.parser.proofs.LeftEdge.{Step, branch_root, opened, dropped}
 use Rattle.parser.proofs.Inputs.{IsOpening, taken, none_counted, kids_kinds, opening_begins, opening_on}
 use Rattle.parser.proofs.Reductions.{below-append}

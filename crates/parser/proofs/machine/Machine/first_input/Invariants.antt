@@ -1,4 +1,5 @@
-use Rattle.parser.proofs.Common.{◌≡◌, plain_of, input_of, IsInput, Offers, all_trees, ComeFrom}
+use Rattle.parser.proofs.Std.{◌≡◌}
+use Rattle.parser.proofs.Common.{plain_of, input_of, IsInput, Offers, all_trees, ComeFrom}
 use Rattle.parser.proofs.LeftEdge.{weight}
 use Rattle.parser.proofs.Inputs.{IsOpening}
 use Rattle.parser.proofs.machine.Machine.first_input.Given as goal

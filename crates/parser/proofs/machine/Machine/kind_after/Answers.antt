@@ -1,4 +1,5 @@
-use Rattle.parser.proofs.Common.{◌≡◌, ◌+◌, length, slice_get, ap, ◌∙◌, arith, yield, plain, Node, tree}
+use Rattle.parser.proofs.Std.{◌≡◌, ◌+◌, length, slice_get, ap, ◌∙◌, arith}
+use Rattle.parser.proofs.Common.{yield, plain, Node, tree}
 use Rattle.parser.proofs.SecondKind.{second_is}
 use Rattle.parser.proofs.Reusing.{counted}
 use Rattle.parser.proofs.machine.Machine.kind_after.Goals as goal

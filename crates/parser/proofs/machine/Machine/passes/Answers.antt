@@ -1,4 +1,5 @@
-use Rattle.parser.proofs.Common.{◌+◌, ◌∷◌, ◌++◌, [], length, drop, refl, sym, ◌∙◌, subst, Nonterminal, IsTree, yield, plain, Node, tree, plain_of, IsAction, IsStateOf}
+use Rattle.parser.proofs.Std.{◌+◌, ◌∷◌, ◌++◌, [], length, drop, refl, sym, ◌∙◌, subst}
+use Rattle.parser.proofs.Common.{Nonterminal, IsTree, yield, plain, Node, tree, plain_of, IsAction, IsStateOf}
 use Rattle.parser.proofs.Moves.{top_stands}
 use Rattle.parser.proofs.Reusing.{tree_left, no_goto, no_action, can_reuse, goes, look_drop, some_is, none_is}
 use Rattle.parser.proofs.machine.Machine.passes.Goals.{After-production-root, In-Some}

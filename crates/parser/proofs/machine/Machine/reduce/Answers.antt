@@ -1,4 +1,5 @@
-use Rattle.parser.proofs.Common.{◌≡◌, ◌+◌, ◌-◌, List, [], ◌∷◌, ◌++◌, length, length-take, take, drop, get_or, sym, ap, ◌∙◌, subst, rules, arith, length-append, Option, Kind, Symbol, Nonterminal, Grammar, Tree, HaveRoots, append_cancel_right, length-roots, Reduces, goto_there, Handle, handle, reduces_roots, AreBelow, Node, IsStateOf, plain_of, HasStates, HasMade}
+use Rattle.parser.proofs.Std.{◌≡◌, ◌+◌, ◌-◌, List, [], ◌∷◌, ◌++◌, length, length-take, take, drop, get_or, sym, ap, ◌∙◌, subst, rules, arith, length-append, Option, append_cancel_right}
+use Rattle.parser.proofs.Common.{Kind, Symbol, Nonterminal, Grammar, Tree, HaveRoots, length-roots, Reduces, goto_there, Handle, handle, reduces_roots, AreBelow, Node, IsStateOf, plain_of, HasStates, HasMade}
 use Rattle.parser.proofs.Reductions.{parts, reduced, states_after, state_under, plain-length, below-take, below-drop}
 use Rattle.parser.proofs.machine.Machine.reduce.Goals.{After-len, In_ok-push}
 use Rattle.parser.proofs.machine.Machine.reduce.Goals as goal

@@ -1,4 +1,6 @@
-use Rattle.parser.proofs.Common.{◌≡◌, ◌+◌, ℕ, List, length, slice_get, Some, refl, sym, ap, ◌∙◌, subst, arith, slice_get_within, HasMove, Shift, Reduce, Accept, Kind, Tree, yield, plain_tree, Stamped, Cell, all_trees, tree, Child, Node, Reduces, Sets, IsStateOf, Offers, IsOffer, FirstInput, OffersTree, OffersNext, input_of, IsInput, plain_of, HasStates, IsStoppedAt, verdict_of, CameFrom, ComeFrom, IsEdge, SoFar, AreOlder, Rule as Token, plain_move as plain}
+use Rattle.parser.proofs.Std.{◌≡◌, ◌+◌, ℕ, List, length, slice_get, Some, refl, sym, ap, ◌∙◌, subst, arith, slice_get_within}
+use Rattle.parser.proofs.Common.{HasMove, Shift, Reduce, Accept, Kind, Tree, yield, plain_tree, Stamped, Rule as Token}
+use Rattle.parser.proofs.Common.{Cell, all_trees, tree, Child, Node, Reduces, Sets, IsStateOf, Offers, IsOffer, FirstInput, OffersTree, OffersNext, input_of, IsInput, plain_of, HasStates, IsStoppedAt, verdict_of, CameFrom, ComeFrom, IsEdge, SoFar, AreOlder, plain_move as plain}
 use Rattle.parser.proofs.WhereBranchesComeFrom.{came_reduced, came_shifted, came_taken, come_older, come_on, prefix_came, prefix_from, skipped_came, skipped_left}
 use Rattle.parser.proofs.Inputs.{taken}
 use Rattle.parser.proofs.Moves.{Reached, top_stands}

@@ -1,4 +1,5 @@
-use Rattle.parser.proofs.Common.{◌≡◌, ◌+◌, ◌-◌, ◌^◌, length, take, all_trees, input_of, CameFrom, SoFar}
+use Rattle.parser.proofs.Std.{◌≡◌, ◌+◌, ◌-◌, ◌^◌, length, take}
+use Rattle.parser.proofs.Common.{all_trees, input_of, CameFrom, SoFar}
 use Rattle.parser.proofs.machine.Machine.run.Given as goal
 
 abbrev pub invariant-moves : goal.invariant-moves

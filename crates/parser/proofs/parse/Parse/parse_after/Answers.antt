@@ -1,4 +1,5 @@
-use Rattle.parser.proofs.Common.{◌≡◌, ◌+◌, [], ap, arith, ◌∙◌, drop, length, subst, sym, take, Result, Ok, Err, IfOk, plain_splice, AreStampedExactly, Built, IsPrepared, all_trees, forest_in, trees_from, input_of, plain_of, AreMadeBy, all_branches_by, verdict_in, IsMadeByRun, IsParseAfter, AreOlder, KeepStamps, all_numbered}
+use Rattle.parser.proofs.Std.{◌≡◌, ◌+◌, [], ap, arith, ◌∙◌, drop, length, subst, sym, take, Result, Ok, Err, IfOk}
+use Rattle.parser.proofs.Common.{plain_splice, AreStampedExactly, Built, IsPrepared, all_trees, forest_in, trees_from, input_of, plain_of, AreMadeBy, all_branches_by, verdict_in, IsMadeByRun, IsParseAfter, AreOlder, KeepStamps, all_numbered}
 use Rattle.parser.proofs.CompactedParse.{same_parse, same_plain, same_stamped}
 use Rattle.parser.proofs.WhereBranchesComeFrom.{keep_stamps}
 use Rattle.parser.proofs.Edits.{built_exactly, stamped_exactly}

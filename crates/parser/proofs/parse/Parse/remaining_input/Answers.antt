@@ -1,4 +1,5 @@
-use Rattle.parser.proofs.Common.{◌≡◌, ◌≤◌, IfOk, ap, ◌∙◌, subst, sym, most, place_of, plain_of, IsInput}
+use Rattle.parser.proofs.Std.{◌≡◌, ◌≤◌, IfOk, ap, ◌∙◌, subst, sym}
+use Rattle.parser.proofs.Common.{most, place_of, plain_of, IsInput}
 use Rattle.parser.proofs.Edits.{old_input, stack_countable}
 use Rattle.parser.proofs.Running.{no_input}
 use Rattle.parser.proofs.parse.Parse.remaining_input.Goals as goal

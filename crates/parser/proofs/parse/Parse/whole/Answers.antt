@@ -1,4 +1,5 @@
-use Rattle.parser.proofs.Common.{[], ◌+◌, arith, drop, length, subst, sym, rules, all_trees, input_of, IsInput, IsMadeByRun, AreOlder, common_steps}
+use Rattle.parser.proofs.Std.{[], ◌+◌, arith, drop, length, subst, sym, rules, common_steps}
+use Rattle.parser.proofs.Common.{all_trees, input_of, IsInput, IsMadeByRun, AreOlder}
 use Rattle.parser.proofs.WholeRun.{plain_count, plain_stamps}
 use Rattle.parser.proofs.Running.{no_input}
 use Rattle.parser.proofs.Stamping.{none_in_nothing}

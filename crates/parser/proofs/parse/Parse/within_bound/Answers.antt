@@ -1,4 +1,5 @@
-use Rattle.parser.proofs.Common.{refl, ap, sym, subst, ◌∙◌, ◌≡◌, ◌++◌, drop, length, take, arith, rules, AreBelow, all_trees, renamed, verdict_in, verdict_of}
+use Rattle.parser.proofs.Std.{refl, ap, sym, subst, ◌∙◌, ◌≡◌, ◌++◌, drop, length, take, arith, rules}
+use Rattle.parser.proofs.Common.{AreBelow, all_trees, renamed, verdict_in, verdict_of}
 use Rattle.parser.proofs.Renaming.{renamed_long, verdict_stays, written}
 use Rattle.parser.proofs.parse.Parse.within_bound.Goals as goal
 

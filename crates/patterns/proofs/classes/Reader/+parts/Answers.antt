@@ -1,4 +1,5 @@
-use Rattle.patterns.proofs.Common.{not, [], ◌∷◌, refl, sym, ◌∙◌, ap, lt_trans, Outside, Nothing, ARepetition, fault_from, one_seq, one_rep, sequence, choice, Plain, writing, is_sound}
+use Rattle.patterns.proofs.Std.{not, [], ◌∷◌, refl, sym, ◌∙◌, ap, lt_trans}
+use Rattle.patterns.proofs.Common.{Outside, Nothing, ARepetition, fault_from, one_seq, one_rep, sequence, choice, Plain, writing, is_sound}
 use Rattle.patterns.proofs.Blanks.{among_blanks, blanks_skipped}
 use Rattle.patterns.proofs.Repeats.{of_level, repeated, no_stop, joined, enclosed, literal_part, class_part, group_opens, unclosed, as_group, hands_on}
 use Rattle.patterns.proofs.classes.Reader.+parts.Goals as goal

@@ -1,4 +1,5 @@
-use Rattle.patterns.proofs.Common.{◌≡◌, ◌+◌, ◌-◌, ◌*◌, length, true, ARepetition, Alt, Seq, writing, stops, IsRead, HasNoBlank}
+use Rattle.patterns.proofs.Std.{◌≡◌, ◌+◌, ◌-◌, ◌*◌, length, true}
+use Rattle.patterns.proofs.Common.{ARepetition, Alt, Seq, writing, stops, IsRead, HasNoBlank}
 use Rattle.patterns.proofs.classes.Reader.+parts.Given as goal
 
 abbrev pub decreases-alternatives : goal.decreases-alternatives

@@ -1,4 +1,5 @@
-use Rattle.patterns.proofs.Common.{sym, ◌∙◌, ap, is_nothing, writing}
+use Rattle.patterns.proofs.Std.{sym, ◌∙◌, ap}
+use Rattle.patterns.proofs.Common.{is_nothing, writing}
 use Rattle.patterns.proofs.Literals.{caret_body, caret_step, no_member, some_member}
 use Rattle.patterns.proofs.Repeats.{hands_on}
 use Rattle.patterns.proofs.classes.Reader.class.Goals as goal

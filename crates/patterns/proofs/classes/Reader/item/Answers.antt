@@ -1,4 +1,5 @@
-use Rattle.patterns.proofs.Common.{ℕ, [], ◌∷◌, refl, sym, ◌∙◌, ap, subst, Plain, InClass, Items, fault_from, IsClassChar, writing, place, arith, common_steps}
+use Rattle.patterns.proofs.Std.{ℕ, [], ◌∷◌, refl, sym, ◌∙◌, ap, subst, arith, common_steps}
+use Rattle.patterns.proofs.Common.{Plain, InClass, Items, fault_from, IsClassChar, writing, place}
 use Rattle.patterns.proofs.Literals.{no_item, no_last, first_step}
 use Rattle.patterns.proofs.classes.Reader.item.Goals as goal
 

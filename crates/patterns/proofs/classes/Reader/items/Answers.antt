@@ -1,4 +1,5 @@
-use Rattle.patterns.proofs.Common.{List, sym, ◌∙◌, ap, subst, arith, list_all, Interval, InClass, Items, fault_from, is_range, writing}
+use Rattle.patterns.proofs.Std.{List, sym, ◌∙◌, ap, subst, arith, list_all}
+use Rattle.patterns.proofs.Common.{Interval, InClass, Items, fault_from, is_range, writing}
 use Rattle.patterns.proofs.Literals.{IsClassSoFar, class_closed, one_more_item, all_and_one}
 use Rattle.patterns.proofs.classes.Reader.items.Goals as goal
 

@@ -1,4 +1,5 @@
-use Rattle.patterns.proofs.Common.{◌≡◌, ℕ, ◌≤◌, [], length, Bool, true, list_all, InClass, Items, fault_from, is_range, writing}
+use Rattle.patterns.proofs.Std.{◌≡◌, ℕ, ◌≤◌, [], length, Bool, true, list_all}
+use Rattle.patterns.proofs.Common.{InClass, Items, fault_from, is_range, writing}
 use Rattle.patterns.proofs.Literals.{IsClassSoFar}
 use Rattle.patterns.proofs.classes.Reader.items.Given as goal
 

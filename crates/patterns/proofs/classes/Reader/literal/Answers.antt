@@ -1,4 +1,5 @@
-use Rattle.patterns.proofs.Common.{List, ℕ, sym, ◌∙◌, ap, subst, arith, InLiteral, fault_from, is_empty, writing}
+use Rattle.patterns.proofs.Std.{List, ℕ, sym, ◌∙◌, ap, subst, arith}
+use Rattle.patterns.proofs.Common.{InLiteral, fault_from, is_empty, writing}
 use Rattle.patterns.proofs.Literals.{IsLiteralSoFar, literal_closed, one_more_literal, literal_step, not_empty_after, no_literal_char}
 use Rattle.patterns.proofs.classes.Reader.literal.Goals as goal
 

@@ -1,4 +1,5 @@
-use Rattle.patterns.proofs.Common.{◌≡◌, ℕ, ◌≤◌, length, true, InLiteral, fault_from, is_empty, writing}
+use Rattle.patterns.proofs.Std.{◌≡◌, ℕ, ◌≤◌, length, true}
+use Rattle.patterns.proofs.Common.{InLiteral, fault_from, is_empty, writing}
 use Rattle.patterns.proofs.Literals.{IsLiteralSoFar}
 use Rattle.patterns.proofs.classes.Reader.literal.Given as goal
 

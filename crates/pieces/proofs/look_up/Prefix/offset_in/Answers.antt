@@ -1,4 +1,5 @@
-use Rattle.pieces.proofs.Common.{chars, false≢true, YieldsList-from_chars, append_assoc, offset, units, Position, Encoding, Utf8, Prefix, prefix_of, with_ones, room, IsPast, end_before_feed, arith, refl, sym, ap, subst, ◌∙◌, cond, ◌≡◌, ◌-◌, ◌+◌, ◌^◌, ◌≤◌, ◌&&◌, ◌==◌, ℕ, List, ◌∷◌, ◌++◌, [], length, drop}
+use Rattle.pieces.proofs.Std.{chars, false≢true, YieldsList-from_chars, append_assoc, arith, refl, sym, ap, subst, ◌∙◌, cond, ◌≡◌, ◌-◌, ◌+◌, ◌^◌, ◌≤◌, ◌&&◌, ◌==◌, ℕ, List, ◌∷◌, ◌++◌, [], length, drop}
+use Rattle.pieces.proofs.Common.{offset, units, Position, Encoding, Utf8, Prefix, prefix_of, with_ones, room, IsPast, end_before_feed}
 use Rattle.pieces.proofs.KnownPrefix.{few_prefix, no_ones, ones-more, room-not_past}
 use Rattle.pieces.proofs.Offsets.{offset-step}
 use Rattle.pieces.proofs.CharacterLoops.{IsTurn, turn-from, all-from, turn-whole, few-turn}

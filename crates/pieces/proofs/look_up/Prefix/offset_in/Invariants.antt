@@ -1,4 +1,5 @@
-use Rattle.pieces.proofs.Common.{◌≡◌, ℕ, ◌^◌, ◌≤◌, List, ◌++◌, chars, Utf8, units, prefix_of, with_ones, room, IsPast, end_before_feed}
+use Rattle.pieces.proofs.Std.{◌≡◌, ℕ, ◌^◌, ◌≤◌, List, ◌++◌, chars}
+use Rattle.pieces.proofs.Common.{Utf8, units, prefix_of, with_ones, room, IsPast, end_before_feed}
 use Rattle.pieces.proofs.look_up.Prefix.offset_in.Given as goal
 
 abbrev pub invariant-loop-c : goal.invariant-loop-c

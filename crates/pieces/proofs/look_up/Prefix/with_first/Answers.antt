@@ -1,4 +1,5 @@
-use Rattle.pieces.proofs.Common.{chars, YieldsList-from_chars, append-nil, append_assoc, length_push, take_all, drop_all, begins_with, units, Utf8, prefix_of, arith, sym, ap, ◌∙◌, ◌≡◌, ◌^◌, ◌≤◌, ℕ, List, ◌∷◌, ◌++◌, [], length, take, drop}
+use Rattle.pieces.proofs.Std.{chars, YieldsList-from_chars, append-nil, append_assoc, length_push, take_all, drop_all, arith, sym, ap, ◌∙◌, ◌≡◌, ◌^◌, ◌≤◌, ℕ, List, ◌∷◌, ◌++◌, [], length, take, drop}
+use Rattle.pieces.proofs.Common.{begins_with, units, Utf8, prefix_of}
 use Rattle.pieces.proofs.Joins.{turned}
 use Rattle.pieces.proofs.KnownPrefix.{few_prefix, no_ones, ones-more}
 use Rattle.pieces.proofs.CharacterLoops.{IsTurn, turn-from, all-from, turn-rest, few-take, few-turn}

@@ -1,4 +1,5 @@
-use Rattle.pieces.proofs.Common.{◌≡◌, ℕ, ◌+◌, ◌^◌, ◌≤◌, List, ◌++◌, length, chars, Utf8, units, prefix_of, with_ones}
+use Rattle.pieces.proofs.Std.{◌≡◌, ℕ, ◌+◌, ◌^◌, ◌≤◌, List, ◌++◌, length, chars}
+use Rattle.pieces.proofs.Common.{Utf8, units, prefix_of, with_ones}
 use Rattle.pieces.proofs.look_up.Prefix.with_first.Given as goal
 
 abbrev pub invariant-loop-c : goal.invariant-loop-c

@@ -1,4 +1,4 @@
-use Rattle.pieces.proofs.Common.{◌∙◌, ◌++◌, chars, append-nil, chars-nil}
+use Rattle.pieces.proofs.Std.{◌∙◌, ◌++◌, chars, append-nil, chars-nil}
 use Rattle.pieces.proofs.piece.PieceChunk.before.Goals as goal
 
 pub returns : goal.returns

@@ -1,4 +1,5 @@
-use Rattle.pieces.proofs.Common.{arith, sym, ap, inl, inr, ◌∙◌, ◌≡◌, ℕ, ◌+◌, ◌-◌, ◌*◌, ◌<◌, ◌≤◌, ◌⊎◌, List, length, take, drop, string_bytes, IsUtf8, IsCharBoundary, IsUtf8-take, IsUtf8-drop, IsCharBoundary-start, cases_lt, take-append-drop, chars, chars-append, chars-nil, units, Utf8, IsCutOff, sums_of}
+use Rattle.pieces.proofs.Std.{arith, sym, ap, inl, inr, ◌∙◌, ◌≡◌, ℕ, ◌+◌, ◌-◌, ◌*◌, ◌<◌, ◌≤◌, ◌⊎◌, List, length, take, drop, string_bytes, IsUtf8, IsCharBoundary, IsUtf8-take, IsUtf8-drop, IsCharBoundary-start, cases_lt, take-append-drop, chars, chars-append, chars-nil}
+use Rattle.pieces.proofs.Common.{units, Utf8, IsCutOff, sums_of}
 use Rattle.std.proofs.Common.{length-drop}
 use Rattle.pieces.proofs.Borders.{near, not_past}
 use Rattle.pieces.proofs.Joins.{units-chars}

@@ -1,4 +1,5 @@
-use Rattle.pieces.proofs.Common.{ap, sym, ◌∙◌, chars, units, Utf8}
+use Rattle.pieces.proofs.Std.{ap, sym, ◌∙◌, chars}
+use Rattle.pieces.proofs.Common.{units, Utf8}
 use Rattle.pieces.proofs.Joins.{units-chars}
 use Rattle.pieces.proofs.piece.PieceChunk.size.Goals as goal
 

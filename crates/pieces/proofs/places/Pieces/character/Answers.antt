@@ -1,4 +1,4 @@
-use Rattle.pieces.proofs.Common.{arith, ap, sym, ◌≡◌, ◌∙◌, ◌≤◌, ℕ, List, [], ◌∷◌, length, chars, chars-nil}
+use Rattle.pieces.proofs.Std.{arith, ap, sym, ◌≡◌, ◌∙◌, ◌≤◌, ℕ, List, [], ◌∷◌, length, chars, chars-nil}
 use Rattle.pieces.proofs.CutAt.{some_after}
 use Rattle.pieces.proofs.places.Pieces.character.Goals as goal
 

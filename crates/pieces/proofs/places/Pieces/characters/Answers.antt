@@ -1,4 +1,5 @@
-use Rattle.pieces.proofs.Common.{arith, ◌∙◌, ◌≤◌, text_in, units, Utf8, most}
+use Rattle.pieces.proofs.Std.{arith, ◌∙◌, ◌≤◌}
+use Rattle.pieces.proofs.Common.{text_in, units, Utf8, most}
 use Rattle.pieces.proofs.Summed.{total-pieces}
 use Rattle.pieces.proofs.places.Pieces.characters.Goals as goal
 

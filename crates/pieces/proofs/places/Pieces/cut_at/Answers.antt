@@ -1,4 +1,5 @@
-use Rattle.pieces.proofs.Common.{arith, sym, ap, ◌∙◌, ◌≡◌, ◌+◌, ◌-◌, [], length, take, drop, Some, None, slice_get, option_copied, chars, chars-nil, units, Utf8, within_chunks, inside, cut_in, cut_at_end, IsCut}
+use Rattle.pieces.proofs.Std.{arith, sym, ap, ◌∙◌, ◌≡◌, ◌+◌, ◌-◌, [], length, take, drop, Some, None, slice_get, option_copied, chars, chars-nil}
+use Rattle.pieces.proofs.Common.{units, Utf8, within_chunks, inside, cut_in, cut_at_end, IsCut}
 use Rattle.pieces.proofs.CutAt.{prefix_le}
 use Rattle.pieces.proofs.Joins.{units-nil, units-append}
 use Rattle.pieces.proofs.LocatedPiece.{sum-before, offset-reached, offset-not_before}

@@ -1,4 +1,5 @@
-use Rattle.pieces.proofs.Common.{arith, ap, units, Utf8, text_in}
+use Rattle.pieces.proofs.Std.{arith, ap}
+use Rattle.pieces.proofs.Common.{units, Utf8, text_in}
 use Rattle.pieces.proofs.Joins.{units-nil}
 use Rattle.pieces.proofs.places.Pieces.new.Goals as goal
 

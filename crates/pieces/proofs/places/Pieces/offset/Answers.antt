@@ -1,4 +1,5 @@
-use Rattle.pieces.proofs.Common.{text_in, chars, append_assoc, offset, units, Utf8, IsPast, end_before_feed, all_before, within_chunks, prefix-more, whole_at, arith, sym, ap, subst, ◌∙◌, cond, ◌≡◌, ◌-◌, ◌+◌, ◌^◌, ◌≤◌, ◌&&◌, ◌==◌, ℕ, List, ◌++◌, drop, Some, slice_get, option_copied}
+use Rattle.pieces.proofs.Std.{chars, append_assoc, arith, sym, ap, subst, ◌∙◌, cond, ◌≡◌, ◌-◌, ◌+◌, ◌^◌, ◌≤◌, ◌&&◌, ◌==◌, ℕ, List, ◌++◌, drop, Some, slice_get, option_copied}
+use Rattle.pieces.proofs.Common.{text_in, offset, units, Utf8, IsPast, end_before_feed, all_before, within_chunks, prefix-more, whole_at}
 use Rattle.pieces.proofs.LocatedPiece.{sum-before, position-reached, position-not_before}
 use Rattle.pieces.proofs.Offsets.{offset-end}
 use Rattle.pieces.proofs.PastTheEnd.{offset-within}

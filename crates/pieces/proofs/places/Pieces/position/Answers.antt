@@ -1,4 +1,5 @@
-use Rattle.pieces.proofs.Common.{text_in, chars, append-nil, position, units, begins_with, Utf8, prefix_of, all_before, within_chunks, prefix-more, whole_at, arith, refl, sym, ap, subst, ◌∙◌, ◌≡◌, ◌-◌, ◌+◌, ◌^◌, ◌<◌, ◌≤◌, ℕ, List, ◌++◌, [], length, take, drop, Some, slice_get, option_copied}
+use Rattle.pieces.proofs.Std.{chars, append-nil, arith, refl, sym, ap, subst, ◌∙◌, ◌≡◌, ◌-◌, ◌+◌, ◌^◌, ◌<◌, ◌≤◌, ℕ, List, ◌++◌, [], length, take, drop, Some, slice_get, option_copied}
+use Rattle.pieces.proofs.Common.{text_in, position, units, begins_with, Utf8, prefix_of, all_before, within_chunks, prefix-more, whole_at}
 use Rattle.pieces.proofs.LocatedPiece.{sum-before, offset-reached, offset-not_before, cut-text, cut-length, cut-next}
 use Rattle.pieces.proofs.PastTheEnd.{position-past}
 use Rattle.pieces.proofs.Summed.{text_before, few_before}

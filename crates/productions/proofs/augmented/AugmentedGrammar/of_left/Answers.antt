@@ -1,4 +1,5 @@
-use Rattle.productions.proofs.Common.{◌≡◌, ◌<◌, [], All, AllPairs, Contains, length, slice_index_or, sym, subst, ap, ◌∙◌, get_or_default, left_of}
+use Rattle.productions.proofs.Std.{◌≡◌, ◌<◌, [], All, AllPairs, Contains, length, slice_index_or, sym, subst, ap, ◌∙◌, get_or_default}
+use Rattle.productions.proofs.Common.{left_of}
 use Rattle.productions.proofs.augmented.AugmentedGrammar.of_left.Goals as goal
 use Rattle.productions.proofs.augmented.AugmentedGrammar.of_left.Goals.{After-items}
 

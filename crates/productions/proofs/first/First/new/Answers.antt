@@ -1,4 +1,5 @@
-use Rattle.productions.proofs.Common.{rules, ◌≡◌, ◌∷◌, ◌++◌, [], Some, length, subst, sym, AreExact}
+use Rattle.productions.proofs.Std.{rules, ◌≡◌, ◌∷◌, ◌++◌, [], Some, length, subst, sym}
+use Rattle.productions.proofs.Common.{AreExact}
 use Rattle.productions.proofs.EachMore.{each_more}
 use Rattle.productions.proofs.Fixpoint.{exact_nullable, exact_begin}
 use Rattle.productions.proofs.first.First.new.Goals as goal

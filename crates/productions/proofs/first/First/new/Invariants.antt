@@ -1,4 +1,5 @@
-use Rattle.productions.proofs.Common.{◌≡◌, ◌<◌, ℕ, [], length, slice_index_or, Some, AreExact}
+use Rattle.productions.proofs.Std.{◌≡◌, ◌<◌, ℕ, [], length, slice_index_or, Some}
+use Rattle.productions.proofs.Common.{AreExact}
 use Rattle.productions.proofs.first.First.new.Given as goal
 
 abbrev pub invariant-loop-a : goal.invariant-loop-a

@@ -1,4 +1,5 @@
-use Rattle.runs.proofs.Common.{arith, refl, sym, ap, ◌∙◌, ◌≡◌, ℕ, nought as zero, suc, ◌+◌, ◌++◌, List, [], ◌∷◌, length, drop, slice_get, flattened, none_after}
+use Rattle.runs.proofs.Std.{arith, refl, sym, ap, ◌∙◌, ◌≡◌, ℕ, nought as zero, suc, ◌+◌, ◌++◌, List, [], ◌∷◌, length, drop, slice_get}
+use Rattle.runs.proofs.Common.{flattened, none_after}
 use Rattle.runs.proofs.list.Runs.get.Goals as goal
 
 -- the first of two lists joined, where the first list is empty only where the second is

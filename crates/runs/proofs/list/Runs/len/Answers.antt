@@ -1,4 +1,5 @@
-use Rattle.runs.proofs.Common.{arith, ap, ◌∙◌, ◌≤◌, length, most, flattened}
+use Rattle.runs.proofs.Std.{arith, ap, ◌∙◌, ◌≤◌, length}
+use Rattle.runs.proofs.Common.{most, flattened}
 use Rattle.runs.proofs.Totals.{total-items}
 use Rattle.runs.proofs.list.Runs.len.Goals as goal
 

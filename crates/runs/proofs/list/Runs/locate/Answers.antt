@@ -1,4 +1,5 @@
-use Rattle.runs.proofs.Common.{arith, sym, ap, ◌∙◌, ◌≡◌, ◌+◌, length, Some, None, slice_get, option_copied, past_chunk, within_chunks}
+use Rattle.runs.proofs.Std.{arith, sym, ap, ◌∙◌, ◌≡◌, ◌+◌, length, Some, None, slice_get, option_copied}
+use Rattle.runs.proofs.Common.{past_chunk, within_chunks}
 use Rattle.runs.proofs.FirstReached.{IsFound, located_none, located_in}
 use Rattle.runs.proofs.list.Runs.locate.Goals as goal
 

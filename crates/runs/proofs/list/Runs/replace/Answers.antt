@@ -1,4 +1,5 @@
-use Rattle.runs.proofs.Common.{arith, ap, refl, length-append, ◌∙◌, ◌≡◌, ◌≤◌, ◌+◌, ◌-◌, ◌++◌, ℕ, List, length, take, drop, length-take, length-drop, filled_between, in_order, flattened}
+use Rattle.runs.proofs.Std.{arith, ap, refl, length-append, ◌∙◌, ◌≡◌, ◌≤◌, ◌+◌, ◌-◌, ◌++◌, ℕ, List, length, take, drop, length-take, length-drop}
+use Rattle.runs.proofs.Common.{filled_between, in_order, flattened}
 use Rattle.runs.proofs.list.Runs.replace.Goals as goal
 
 -- how many items a change leaves

@@ -1,4 +1,5 @@
-use Rattle.runs.proofs.Common.{arith, ap, ◌∙◌, length, flattened}
+use Rattle.runs.proofs.Std.{arith, ap, ◌∙◌, length}
+use Rattle.runs.proofs.Common.{flattened}
 use Rattle.runs.proofs.list.Runs.seq.Goals as goal
 
 pub returns-clause-items : goal.returns-clause-items

@@ -1,4 +1,5 @@
-use Rattle.runs.proofs.Common.{ap, ◌∙◌, total}
+use Rattle.runs.proofs.Std.{ap, ◌∙◌}
+use Rattle.runs.proofs.Common.{total}
 use Rattle.runs.proofs.Totals.{total-sum}
 use Rattle.runs.proofs.list.Runs.total.Goals as goal
 

@@ -1,4 +1,5 @@
-use Rattle.runs.proofs.Common.{ap, sym, ◌∙◌, take, total, total-append, flattened}
+use Rattle.runs.proofs.Std.{ap, sym, ◌∙◌, take}
+use Rattle.runs.proofs.Common.{total, total-append, flattened}
 use Rattle.runs.proofs.list.Runs.total_before.Goals as goal
 
 pub returns : goal.returns

@@ -1,4 +1,5 @@
-use Rattle.seqtree.proofs.Common.{arith, ap, ◌∙◌, ◌≡◌, ◌++◌, ℕ, List, length, take, drop, joined, AreFew, IsGap}
+use Rattle.seqtree.proofs.Std.{arith, ap, ◌∙◌, ◌≡◌, ◌++◌, ℕ, List, length, take, drop}
+use Rattle.seqtree.proofs.Common.{joined, AreFew, IsGap}
 use Rattle.seqtree.proofs.Gaps.{gap_of, few_left, left}
 use Rattle.seqtree.proofs.chunks.Chunks.replace.Goals as goal
 

@@ -1,4 +1,5 @@
-use Rattle.seqtree.proofs.Common.{◌≡◌, ◌∷◌, length, ap, sym, ◌∙◌, arith, items_ahead}
+use Rattle.seqtree.proofs.Std.{◌≡◌, ◌∷◌, length, ap, sym, ◌∙◌, arith}
+use Rattle.seqtree.proofs.Common.{items_ahead}
 use Rattle.seqtree.proofs.Parts.{items_ahead-push, AreParts-below, AreParts-top}
 use Rattle.seqtree.proofs.iter.IterIterator.next.Goals as goal
 

@@ -1,4 +1,4 @@
-use Rattle.seqtree.proofs.Common.{arith, common_steps}
+use Rattle.seqtree.proofs.Std.{arith, common_steps}
 use Rattle.seqtree.proofs.seq.Seq.replace.Goals as goal
 
 pub returns-clause-list : goal.returns-clause-list

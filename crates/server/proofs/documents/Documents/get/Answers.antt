@@ -1,4 +1,5 @@
-use Rattle.server.proofs.Common.{sym, ap, subst, ◌∙◌, option_map, get, entry_view, IsEntryOf}
+use Rattle.server.proofs.Std.{sym, ap, subst, ◌∙◌, option_map, get}
+use Rattle.server.proofs.Common.{entry_view, IsEntryOf}
 use Rattle.server.proofs.MapEntries.{get_held, map_twice, found_current}
 use Rattle.server.proofs.documents.Documents.get.Goals as goal
 

@@ -1,4 +1,4 @@
-use Rattle.server.proofs.Common.{◌≡◌, sym, ap, ◌∙◌, ◌||◌, nat_lt, false, contains_key, len}
+use Rattle.server.proofs.Std.{◌≡◌, sym, ap, ◌∙◌, ◌||◌, nat_lt, false, contains_key, len}
 use Rattle.server.proofs.MapEntries.{len_held}
 use Rattle.server.proofs.documents.Documents.has_room.Goals as goal
 

@@ -1,4 +1,5 @@
-use Rattle.server.proofs.Common.{sym, ap, ◌∙◌, is_some, get, entry_view, entry_at}
+use Rattle.server.proofs.Std.{sym, ap, ◌∙◌, is_some, get}
+use Rattle.server.proofs.Common.{entry_view, entry_at}
 use Rattle.server.proofs.MapEntries.{get_held, is_some_map}
 use Rattle.server.proofs.documents.Documents.holds.Goals as goal
 

@@ -1,4 +1,5 @@
-use Rattle.server.proofs.Common.{ap, refl, sym, subst, ◌∙◌, string_bytes, Some, Result, Ok, Err, OnErr, option_map, get, insert, btree_map_text_same, btree_map_updates_text, entry_view, IsEntryOf, AreCurrent}
+use Rattle.server.proofs.Std.{ap, refl, sym, subst, ◌∙◌, string_bytes, Some, Result, Ok, Err, OnErr, option_map, get, insert, btree_map_text_same, btree_map_updates_text}
+use Rattle.server.proofs.Common.{entry_view, IsEntryOf, AreCurrent}
 use Rattle.server.proofs.MapEntries.{get_held, insert_held, insert_current}
 use Rattle.server.proofs.documents.Documents.insert.Goals as goal
 

@@ -1,4 +1,5 @@
-use Rattle.server.proofs.Common.{ap, sym, ◌∙◌, None, is_some, get, remove, btree_map_updates_text, entry_view, entry_at}
+use Rattle.server.proofs.Std.{ap, sym, ◌∙◌, None, is_some, get, remove, btree_map_updates_text}
+use Rattle.server.proofs.Common.{entry_view, entry_at}
 use Rattle.server.proofs.MapEntries.{get_held, is_some_map, remove_held, remove_current}
 use Rattle.server.proofs.documents.Documents.remove.Goals as goal
 

@@ -1,4 +1,5 @@
-use Rattle.server.proofs.Common.{◌≡◌, refl, sym, ap, subst, ◌∙◌, Option, Some, IsSome, IfSome, option_map, option_copied_mut, btree_map_updates_text, Entry, is_lost, documents_of, entry_view, AreCurrent, IsEntryOf}
+use Rattle.server.proofs.Std.{◌≡◌, refl, sym, ap, subst, ◌∙◌, Option, Some, IsSome, IfSome, option_map, option_copied_mut, btree_map_updates_text}
+use Rattle.server.proofs.Common.{Entry, is_lost, documents_of, entry_view, AreCurrent, IsEntryOf}
 use Rattle.rpc.specs.Loss.TheVariants.{Memory}
 use Rattle.std.specs.FinMap as map
 use Rattle.server.proofs.MapEntries.{get_held, insert_held, insert_current}

@@ -1,4 +1,5 @@
-use Rattle.server.proofs.Common.{subst, refl, reply_view, IsPublished, state_view, if_ok_both, open_document}
+use Rattle.server.proofs.Std.{subst, refl}
+use Rattle.server.proofs.Common.{reply_view, IsPublished, state_view, if_ok_both, open_document}
 use Rattle.server.proofs.Holding.{holds_open}
 use Rattle.server.proofs.state.Server.announce.Goals as goal
 

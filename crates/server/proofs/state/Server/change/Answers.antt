@@ -1,4 +1,5 @@
-use Rattle.server.proofs.Common.{◌≡◌, ℤ, w32, map, ap, sym, subst, ◌∙◌, string_bytes, Some, IfSome, option_map, LanguageData, to_z-of_z, get, insert, change_view, is_open, is_lost, Becomes, entry_view, state_view, IfOk-weaker, open_document}
+use Rattle.server.proofs.Std.{◌≡◌, ℤ, w32, map, ap, sym, subst, ◌∙◌, string_bytes, Some, IfSome, option_map, to_z-of_z, get, insert, IfOk-weaker}
+use Rattle.server.proofs.Common.{LanguageData, change_view, is_open, is_lost, Becomes, entry_view, state_view, open_document}
 use Rattle.rpc.specs.Loss.TheVariants.{Memory}
 use Rattle.server.proofs.Holding.{changes_open, state_same}
 use Rattle.server.proofs.state.Server.change.Goals as goal

@@ -1,4 +1,5 @@
-use Rattle.server.proofs.Common.{◌≡◌, ap, sym, ◌∙◌, string_bytes, None, LanguageData, get, state_view, none_is, removed_none, if_ok_both}
+use Rattle.server.proofs.Std.{◌≡◌, ap, sym, ◌∙◌, string_bytes, None, get}
+use Rattle.server.proofs.Common.{LanguageData, state_view, none_is, removed_none, if_ok_both}
 use Rattle.server.proofs.Holding.{closes_none, state_same}
 use Rattle.server.proofs.state.Server.close.Goals as goal
 

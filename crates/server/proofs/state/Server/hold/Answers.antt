@@ -1,4 +1,5 @@
-use Rattle.server.proofs.Common.{List, ℕ, string_bytes, ap, sym, subst, LanguageData, insert, entry_view, sent, State, Holds, state_view, IfOk-weaker}
+use Rattle.server.proofs.Std.{List, ℕ, string_bytes, ap, sym, subst, insert, IfOk-weaker}
+use Rattle.server.proofs.Common.{LanguageData, entry_view, sent, State, Holds, state_view}
 use Rattle.server.proofs.Holding.{state_of, state_same}
 use Rattle.server.proofs.state.Server.hold.Goals as goal
 

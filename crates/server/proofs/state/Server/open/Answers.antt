@@ -1,4 +1,5 @@
-use Rattle.server.proofs.Common.{◌≡◌, List, ℕ, ℤ, w32, ap, sym, ◌∙◌, string_bytes, LanguageData, to_z-of_z, remove, chars, has_room, entry_view, new_document, state_view, IfOk-weaker}
+use Rattle.server.proofs.Std.{◌≡◌, List, ℕ, ℤ, w32, ap, sym, ◌∙◌, string_bytes, to_z-of_z, remove, chars, IfOk-weaker}
+use Rattle.server.proofs.Common.{LanguageData, has_room, entry_view, new_document, state_view}
 use Rattle.server.proofs.Holding.{holds_removed, opens_room, state_same}
 use Rattle.server.proofs.state.Server.open.Goals as goal
 

@@ -1,4 +1,5 @@
-use Rattle.states.proofs.Common.{◌+◌, ◌≡◌, List, arith, subst, sym, take, AreStatesAfter, HaveRoots, IfOk, IfSome}
+use Rattle.states.proofs.Std.{◌+◌, ◌≡◌, List, arith, subst, sym, take, IfOk, IfSome}
+use Rattle.states.proofs.Common.{AreStatesAfter, HaveRoots}
 use Rattle.states.proofs.StackWays.{found_at, roots_forest}
 use Rattle.parser.specs.Machine.{plain_of}
 use Rattle.parser.specs.Parses.{AreStacked, verdict_in}

@@ -1,4 +1,5 @@
-use Rattle.states.proofs.Common.{◌<◌, ◌∙◌, All, length, subst, sym, IsAccepted}
+use Rattle.states.proofs.Std.{◌<◌, ◌∙◌, All, length, subst, sym}
+use Rattle.states.proofs.Common.{IsAccepted}
 use Rattle.states.specs.Stacks.{IsReached}
 use Rattle.states.proofs.pile.Pile.copy.Goals as goal
 

@@ -1,4 +1,5 @@
-use Rattle.states.proofs.Common.{◌++◌, ◌-◌, ◌≡◌, ◌∙◌, ◌∷◌, [], List, arith, refl, subst, sym, true, HasStates}
+use Rattle.states.proofs.Std.{◌++◌, ◌-◌, ◌≡◌, ◌∙◌, ◌∷◌, [], List, arith, refl, subst, sym, true}
+use Rattle.states.proofs.Common.{HasStates}
 use Rattle.states.proofs.Descents.{ArePassed, none_passed, one_passed}
 use Rattle.parser.specs.Machine.{plain_of}
 use Rattle.definitions.specs.TreeEdits.{plain}

@@ -1,4 +1,4 @@
-use Rattle.states.proofs.Common.{◌≡◌}
+use Rattle.states.proofs.Std.{◌≡◌}
 use Rattle.states.proofs.Descents.{ArePassed}
 use Rattle.states.proofs.pile.Pile.enter.Given as goal
 

@@ -1,4 +1,5 @@
-use Rattle.states.proofs.Common.{◌++◌, ◌∷◌, [], subst, sym, HasStates, IsStateOf, Symbol, Tree, top_stands}
+use Rattle.states.proofs.Std.{◌++◌, ◌∷◌, [], subst, sym}
+use Rattle.states.proofs.Common.{HasStates, IsStateOf, Symbol, Tree, top_stands}
 use Rattle.states.proofs.Descents.{pushed}
 use Rattle.std.specs.Prelude.{List}
 use Rattle.definitions.specs.TreeEdits.{plain}

@@ -1,4 +1,5 @@
-use Rattle.states.proofs.Common.{◌<◌, ◌∷◌, [], All, arith, length, length-append, subst, sym, IsAccepted}
+use Rattle.states.proofs.Std.{◌<◌, ◌∷◌, [], All, arith, length, length-append, subst, sym}
+use Rattle.states.proofs.Common.{IsAccepted}
 use Rattle.std.proofs.lemmas.List.Elements.{All-push}
 use Rattle.states.specs.Stacks.{IsReached}
 use Rattle.states.proofs.pile.Pile.put.Goals as goal

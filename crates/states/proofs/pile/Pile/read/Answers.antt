@@ -1,4 +1,5 @@
-use Rattle.states.proofs.Common.{◌≡◌, ◌++◌, ◌∷◌, ◌∙◌, ◌-◌, [], Some, ap, false, get_or, length, inl, inr, refl, subst, sym, true, plain_move, Accept, AreStatesAfter, AreStatesOn, HasMove, IsAccepted, IsStateOf, IsViable, Kind, List, Move, Reduce, Shift, Symbol, Terminal, TokenRule, top_stands}
+use Rattle.states.proofs.Std.{◌≡◌, ◌++◌, ◌∷◌, ◌∙◌, ◌-◌, [], Some, ap, false, get_or, length, inl, inr, refl, subst, sym, true, List}
+use Rattle.states.proofs.Common.{plain_move, Accept, AreStatesAfter, AreStatesOn, HasMove, IsAccepted, IsStateOf, IsViable, Kind, Move, Reduce, Shift, Symbol, Terminal, TokenRule, top_stands}
 use Rattle.states.proofs.Machines.{begins, goes_on, no_accept, states_on, states_shifted, stuck}
 use Rattle.states.proofs.Moves.{shifted}
 use Rattle.states.specs.Stacks.{IsReached}

@@ -1,4 +1,5 @@
-use Rattle.states.proofs.Common.{◌≡◌, ◌⊎◌, ◌++◌, ◌∷◌, [], List, AreStatesAfter, AreStatesOn, IsViable, Kind}
+use Rattle.states.proofs.Std.{◌≡◌, ◌⊎◌, ◌++◌, ◌∷◌, [], List}
+use Rattle.states.proofs.Common.{AreStatesAfter, AreStatesOn, IsViable, Kind}
 use Rattle.states.proofs.pile.Pile.read.Given as goal
 
 abbrev pub invariant-loop : goal.invariant-loop

@@ -1,4 +1,5 @@
-use Rattle.states.proofs.Common.{◌++◌, ◌≤◌, ap, arith, length, subst, sym, take, take_all, AreStatesAfter, IsAccepted}
+use Rattle.states.proofs.Std.{◌++◌, ◌≤◌, ap, arith, length, subst, sym, take, take_all}
+use Rattle.states.proofs.Common.{AreStatesAfter, IsAccepted}
 use Rattle.states.proofs.Machines.{begins, not_with_all}
 use Rattle.states.proofs.Matches.{of_false}
 use Rattle.states.proofs.pile.Pile.read_all.Goals as goal

@@ -1,4 +1,5 @@
-use Rattle.states.proofs.Common.{◌≡◌, ◌++◌, List, take, AreStatesAfter, Kind}
+use Rattle.states.proofs.Std.{◌≡◌, ◌++◌, List, take}
+use Rattle.states.proofs.Common.{AreStatesAfter, Kind}
 use Rattle.states.proofs.pile.Pile.read_all.Given as goal
 
 abbrev pub invariant-loop-kind : goal.invariant-loop-kind

@@ -1,4 +1,5 @@
-use Rattle.states.proofs.Common.{◌++◌, ◌+◌, ◌-◌, ◌≡◌, ◌∙◌, ◌∷◌, [], Some, ap, arith, get_or, length, refl, subst, sym, take, goto_there, AreStatesOn, Handle, HasItem, HasMove, HasProduction, IsStateOf, Kind, List, Nonterminal, Reduce}
+use Rattle.states.proofs.Std.{◌++◌, ◌+◌, ◌-◌, ◌≡◌, ◌∙◌, ◌∷◌, [], Some, ap, arith, get_or, length, refl, subst, sym, take, List}
+use Rattle.states.proofs.Common.{goto_there, AreStatesOn, Handle, HasItem, HasMove, HasProduction, IsStateOf, Kind, Nonterminal, Reduce}
 use Rattle.states.proofs.Machines.{place, right_within, state_below, states_reduced}
 use Rattle.states.proofs.pile.Pile.reduce.Goals.{After-production-symbol, After-state}
 use Rattle.states.proofs.pile.Pile.reduce.Goals as goal

@@ -1,4 +1,4 @@
-use Rattle.states.proofs.Common.{All, subst, sym}
+use Rattle.states.proofs.Std.{All, subst, sym}
 use Rattle.states.specs.Stacks.{IsReached}
 use Rattle.states.proofs.pile.Pile.states.Goals as goal
 

@@ -1,4 +1,5 @@
-use Rattle.states.proofs.Common.{◌<◌, ◌≤◌, All, All-take, arith, length, rules, subst, sym, IsAccepted}
+use Rattle.states.proofs.Std.{◌<◌, ◌≤◌, All, All-take, arith, length, rules, subst, sym}
+use Rattle.states.proofs.Common.{IsAccepted}
 use Rattle.std.proofs.lemmas.List.{length-take-le}
 use Rattle.states.specs.Stacks.{IsReached}
 use Rattle.states.proofs.pile.Pile.take.Goals as goal

@@ -1,4 +1,5 @@
-use Rattle.tables.proofs.Common.{◌≡◌, ◌-◌, length, drop, in_file_order, rules_with_move}
+use Rattle.tables.proofs.Std.{◌≡◌, ◌-◌, length, drop}
+use Rattle.tables.proofs.Common.{in_file_order, rules_with_move}
 use Rattle.tables.proofs.expected.ExpectedIterator.next.Given as goal
 
 -- what is left to list is what was left

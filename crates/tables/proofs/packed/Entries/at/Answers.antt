@@ -1,4 +1,4 @@
-use Rattle.tables.proofs.Common.{arith, common_steps}
+use Rattle.tables.proofs.Std.{arith, common_steps}
 use Rattle.tables.proofs.packed.Entries.at.Goals as goal
 
 pub returns-in_ok-get-in-Narrow : goal.returns-in_ok-get-in-Narrow

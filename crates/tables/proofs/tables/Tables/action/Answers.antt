@@ -1,4 +1,5 @@
-use Rattle.tables.proofs.Common.{◌≡◌, ◌≤◌, ℕ, List, [], Option, Some, None, slice_index_or, sym, ap, ◌∙◌, subst, arith, rules, get_or_default, Symbol, Token, rank, Move, Shift, Sets, seen, IsStateOf, IsAction, move_at}
+use Rattle.tables.proofs.Std.{◌≡◌, ◌≤◌, ℕ, List, [], Option, Some, None, slice_index_or, sym, ap, ◌∙◌, subst, arith, rules, get_or_default}
+use Rattle.tables.proofs.Common.{Symbol, Token, rank, Move, Shift, Sets, seen, IsStateOf, IsAction, move_at}
 use Rattle.tables.proofs.RowsOfPrefix.{right, far_move, shift_state}
 use Rattle.tables.proofs.tables.Tables.action.Goals as goal
 

@@ -1,4 +1,5 @@
-use Rattle.tables.proofs.Common.{ap, subst, sym, ◌∙◌, IsSound, Shape, IfOk-weaker, IfErr-weaker, HasNoConflict, IsLr1, HasOneTreeEach, no_conflict_lr1, one_tree_of_used, IsRight, RefutesLr1}
+use Rattle.tables.proofs.Std.{ap, subst, sym, ◌∙◌, IfOk-weaker, IfErr-weaker}
+use Rattle.tables.proofs.Common.{IsSound, Shape, HasNoConflict, IsLr1, HasOneTreeEach, no_conflict_lr1, one_tree_of_used, IsRight, RefutesLr1}
 use Rattle.tables.proofs.Finishing.{refutes}
 use Rattle.tables.proofs.tables.Tables.build.Goals as goal
 

@@ -1,4 +1,4 @@
-use Rattle.tables.proofs.Common.{◌≡◌, ◌<◌, [], Some, None, length, slice_index_or, sym, ◌∙◌, subst, arith, get_or_default}
+use Rattle.tables.proofs.Std.{◌≡◌, ◌<◌, [], Some, None, length, slice_index_or, sym, ◌∙◌, subst, arith, get_or_default}
 use Rattle.tables.proofs.RowsOfPrefix.{right}
 use Rattle.tables.proofs.Expecting.{all_expected}
 use Rattle.tables.proofs.tables.Tables.expects.Goals as goal

@@ -1,4 +1,4 @@
-use Rattle.tables.proofs.Common.{◌≡◌, [], None, slice_index_or, sym, ap, ◌∙◌, arith, get_or_default}
+use Rattle.tables.proofs.Std.{◌≡◌, [], None, slice_index_or, sym, ap, ◌∙◌, arith, get_or_default}
 use Rattle.tables.proofs.RowsOfPrefix.{goes, far_goto}
 use Rattle.tables.proofs.tables.Tables.goto.Goals as goal
 

@@ -1,4 +1,5 @@
-use Rattle.tables.proofs.Common.{subst, AreMovesDecided, seen}
+use Rattle.tables.proofs.Std.{subst}
+use Rattle.tables.proofs.Common.{AreMovesDecided, seen}
 use Rattle.tables.proofs.StateDecides.{moves_decided}
 use Rattle.tables.proofs.tables.Tables.moves_are_decided.Goals as goal
 

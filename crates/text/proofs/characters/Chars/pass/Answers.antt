@@ -1,4 +1,5 @@
-use Rattle.text.proofs.Common.{rules, arith, inl, ap, sym, subst, ◌∙◌, ◌≡◌, ◌<◌, ◌≤◌, ◌++◌, ℕ, All, List, length, take, drop, true, All-weaker, chars, IsUtf8, IsCharacter, text_in}
+use Rattle.text.proofs.Std.{rules, arith, inl, ap, sym, subst, ◌∙◌, ◌≡◌, ◌<◌, ◌≤◌, ◌++◌, ℕ, All, List, length, take, drop, true, All-weaker, chars, IsUtf8}
+use Rattle.text.proofs.Common.{IsCharacter, text_in}
 use Rattle.text.proofs.AsciiStart.{cut_after, enough, first_are, others_are}
 use Rattle.text.proofs.characters.Chars.pass.Goals as goal
 

@@ -1,4 +1,5 @@
-use Rattle.text.proofs.Common.{arith, refl, ap, sym, subst, ◌∙◌, ◌≡◌, ◌<◌, ◌++◌, ℕ, List, [], ◌∷◌, Option, None, Some, length, true, slice_get, is_some, text_in, chars, false≢true, append-nil, none-some}
+use Rattle.text.proofs.Std.{arith, refl, ap, sym, subst, ◌∙◌, ◌≡◌, ◌<◌, ◌++◌, ℕ, List, [], ◌∷◌, Option, None, Some, length, true, slice_get, is_some, chars, false≢true, append-nil, none-some}
+use Rattle.text.proofs.Common.{text_in}
 use Rattle.text.proofs.characters.Chars.peek.Goals as goal
 
 prefix_get : (xs ys : List ℕ) (c : ℕ) → Some c ≡ slice_get xs 0 → Some c ≡ slice_get (xs ++ ys) 0

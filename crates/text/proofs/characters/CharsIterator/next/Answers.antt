@@ -1,4 +1,5 @@
-use Rattle.text.proofs.Common.{arith, ap, sym, subst, ◌∙◌, ◌≡◌, ◌++◌, ℕ, List, [], ◌∷◌, length, text_in, chars, YieldsFirst, chars-nil}
+use Rattle.text.proofs.Std.{arith, ap, sym, subst, ◌∙◌, ◌≡◌, ◌++◌, ℕ, List, [], ◌∷◌, length, chars, YieldsFirst, chars-nil}
+use Rattle.text.proofs.Common.{text_in}
 use Rattle.text.proofs.characters.CharsIterator.next.Goals as goal
 
 none : (bs : List ℕ) (ps : List (List ℕ)) → length bs ≡ 0 → length ps ≡ 0 → chars bs ++ text_in ps ≡ []

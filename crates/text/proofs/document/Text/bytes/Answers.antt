@@ -1,4 +1,5 @@
-use Rattle.text.proofs.Common.{arith, ap, ◌∙◌, text_in, units-bytes}
+use Rattle.text.proofs.Std.{arith, ap, ◌∙◌}
+use Rattle.text.proofs.Common.{text_in, units-bytes}
 use Rattle.text.proofs.Sizes.{size, bytes_le}
 use Rattle.text.proofs.document.Text.bytes.Goals as goal
 

@@ -1,4 +1,5 @@
-use Rattle.text.proofs.Common.{arith, ap, sym, subst, ◌∙◌, ◌++◌, chars, append-nil, IsText, units, Utf8, IsText-chars, text_in, units-chars}
+use Rattle.text.proofs.Std.{arith, ap, sym, subst, ◌∙◌, ◌++◌, chars, append-nil}
+use Rattle.text.proofs.Common.{IsText, units, Utf8, IsText-chars, text_in, units-chars}
 use Rattle.text.proofs.Sizes.{size, size-chars}
 use Rattle.text.proofs.document.Text.open.Goals as goal
 

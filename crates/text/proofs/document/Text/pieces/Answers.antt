@@ -1,4 +1,5 @@
-use Rattle.text.proofs.Common.{arith, refl, ap, ◌∙◌, ◌≡◌, ◌++◌, ℕ, List, [], ◌∷◌, concat, text_in, units-bytes}
+use Rattle.text.proofs.Std.{arith, refl, ap, ◌∙◌, ◌≡◌, ◌++◌, ℕ, List, [], ◌∷◌, concat}
+use Rattle.text.proofs.Common.{text_in, units-bytes}
 use Rattle.text.proofs.Sizes.{size}
 use Rattle.text.proofs.document.Text.pieces.Goals as goal
 

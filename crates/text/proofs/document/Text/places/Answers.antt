@@ -1,4 +1,5 @@
-use Rattle.text.proofs.Common.{arith, ap, length, text_in}
+use Rattle.text.proofs.Std.{arith, ap, length}
+use Rattle.text.proofs.Common.{text_in}
 use Rattle.text.proofs.Sizes.{length_le}
 use Rattle.text.proofs.document.Text.places.Goals as goal
 

@@ -1,4 +1,5 @@
-use Rattle.text.proofs.Common.{arith, ap, refl, sym, subst, take, drop, ◌≡◌, ◌+◌, ◌++◌, ◌∙◌, ◌≤◌, string_bytes, chars, IsText, edit, units, Utf8, units-bytes, IsText-chars, IsText-edit, in_order, filled_between, text_in}
+use Rattle.text.proofs.Std.{arith, ap, refl, sym, subst, take, drop, ◌≡◌, ◌+◌, ◌++◌, ◌∙◌, ◌≤◌, string_bytes, chars}
+use Rattle.text.proofs.Common.{IsText, edit, units, Utf8, units-bytes, IsText-chars, IsText-edit, in_order, filled_between, text_in}
 use Rattle.text.proofs.Sizes.{IsKept, size, size-chars, kept_cut}
 use Rattle.text.proofs.document.Text.replace.Goals.{After-bytes, After-join_three, In_ok-text}
 use Rattle.text.proofs.document.Text.replace.Goals as goal

@@ -1,4 +1,5 @@
-use Rattle.text.proofs.Common.{refl, changed}
+use Rattle.text.proofs.Std.{refl}
+use Rattle.text.proofs.Common.{changed}
 use Rattle.text.proofs.document.Text.span.Goals as goal
 
 pub returns-in-None-clause-is : goal.returns-in-None-clause-is

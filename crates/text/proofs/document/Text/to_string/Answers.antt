@@ -1,4 +1,5 @@
-use Rattle.text.proofs.Common.{ap, sym, ◌∙◌, ◌≡◌, ◌++◌, List, ℕ, string_bytes, encode_utf8_all, append_assoc, text_in, encodes-append, encodes-chars}
+use Rattle.text.proofs.Std.{ap, sym, ◌∙◌, ◌≡◌, ◌++◌, List, ℕ, string_bytes, encode_utf8_all, append_assoc, encodes-append, encodes-chars}
+use Rattle.text.proofs.Common.{text_in}
 use Rattle.text.proofs.document.Text.to_string.Goals as goal
 
 pub loop-piece-preserved : goal.loop-piece-preserved

@@ -1,4 +1,5 @@
-use Rattle.text.proofs.Common.{◌≡◌, ◌++◌, string_bytes, encode_utf8_all, text_in}
+use Rattle.text.proofs.Std.{◌≡◌, ◌++◌, string_bytes, encode_utf8_all}
+use Rattle.text.proofs.Common.{text_in}
 use Rattle.text.proofs.document.Text.to_string.Given as goal
 
 abbrev pub invariant-loop-piece : goal.invariant-loop-piece

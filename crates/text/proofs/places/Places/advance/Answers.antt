@@ -1,4 +1,5 @@
-use Rattle.text.proofs.Common.{arith, ap, sym, ◌∙◌, ◌≡◌, ◌∷◌, ℕ, List, length, length-drop, drop, rules, text_in}
+use Rattle.text.proofs.Std.{arith, ap, sym, ◌∙◌, ◌≡◌, ◌∷◌, ℕ, List, length, length-drop, drop, rules}
+use Rattle.text.proofs.Common.{text_in}
 use Rattle.text.proofs.NextPosition.{position-line, position-character, at_place}
 use Rattle.text.proofs.places.Places.advance.Goals as goal
 

@@ -1,4 +1,5 @@
-use Rattle.text.proofs.Common.{◌≡◌, ◌+◌, text_in, IsPlaced}
+use Rattle.text.proofs.Std.{◌≡◌, ◌+◌}
+use Rattle.text.proofs.Common.{text_in, IsPlaced}
 use Rattle.text.proofs.places.Places.advance.Given as goal
 
 abbrev pub invariant-loop : goal.invariant-loop

@@ -1,4 +1,5 @@
-use Rattle.text.proofs.Common.{arith, ◌++◌, ◌∙◌, text_in, chars-nil}
+use Rattle.text.proofs.Std.{arith, ◌++◌, ◌∙◌, chars-nil}
+use Rattle.text.proofs.Common.{text_in}
 use Rattle.text.proofs.NextPosition.{position-start}
 use Rattle.text.proofs.places.Places.new.Goals as goal
 

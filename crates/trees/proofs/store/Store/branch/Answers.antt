@@ -1,4 +1,5 @@
-use Rattle.trees.proofs.Common.{[], ◌∷◌, ◌≡◌, ◌++◌, ap, sym, ◌∙◌, subst, refl, rules, Cell, tree, IsStore, Node, NodeId}
+use Rattle.trees.proofs.Std.{[], ◌∷◌, ◌≡◌, ◌++◌, ap, sym, ◌∙◌, subst, refl, rules}
+use Rattle.trees.proofs.Common.{Cell, tree, IsStore, Node, NodeId}
 use Rattle.trees.proofs.Cells.{cell_made, cells-push, grown-new, grown-tree}
 use Rattle.trees.proofs.store.Store.branch.Goals as goal
 

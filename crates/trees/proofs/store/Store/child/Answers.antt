@@ -1,4 +1,5 @@
-use Rattle.trees.proofs.Common.{ap, sym, subst, ◌∙◌, slice_get, IfSome, IsBelow}
+use Rattle.trees.proofs.Std.{ap, sym, subst, ◌∙◌, slice_get, IfSome}
+use Rattle.trees.proofs.Common.{IsBelow}
 use Rattle.trees.proofs.Cells.{below-get, seen_at}
 use Rattle.trees.proofs.store.Store.child.Goals as goal
 

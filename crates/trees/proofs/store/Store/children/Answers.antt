@@ -1,4 +1,5 @@
-use Rattle.trees.proofs.Common.{[], ap, sym, ◌∙◌, subst, AreBelow, trees_from, forest_of, StampedBranch}
+use Rattle.trees.proofs.Std.{[], ap, sym, ◌∙◌, subst}
+use Rattle.trees.proofs.Common.{AreBelow, trees_from, forest_of, StampedBranch}
 use Rattle.trees.proofs.Cells.{seen_at}
 use Rattle.trees.proofs.store.Store.children.Goals as goal
 

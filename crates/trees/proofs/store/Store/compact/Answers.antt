@@ -1,4 +1,5 @@
-use Rattle.trees.proofs.Common.{◌≡◌, length, map, ap, subst, arith, sym, ◌∙◌, Child, AreBelow, all_trees, tree, nodes, sizes, rank, renamed, AreRanks, IsMarked}
+use Rattle.trees.proofs.Std.{◌≡◌, length, map, ap, subst, arith, sym, ◌∙◌}
+use Rattle.trees.proofs.Common.{Child, AreBelow, all_trees, tree, nodes, sizes, rank, renamed, AreRanks, IsMarked}
 use Rattle.trees.proofs.Slides.{marked_below, rank_le, slid_below, slid_trees}
 use Rattle.trees.proofs.store.Store.compact.Goals as goal
 

@@ -1,4 +1,4 @@
-use Rattle.trees.proofs.Common.{refl}
+use Rattle.trees.proofs.Std.{refl}
 use Rattle.trees.proofs.Cells.{below-at}
 use Rattle.trees.proofs.store.Store.counts.Goals as goal
 

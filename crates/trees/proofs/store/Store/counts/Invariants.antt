@@ -1,4 +1,5 @@
-use Rattle.trees.proofs.Common.{◌≡◌, ◌+◌, ◌≤◌, min, drop, most, tokens_below, branches_below}
+use Rattle.trees.proofs.Std.{◌≡◌, ◌+◌, ◌≤◌, min, drop}
+use Rattle.trees.proofs.Common.{most, tokens_below, branches_below}
 use Rattle.trees.proofs.store.Store.counts.Given as goal
 
 -- what is counted, with what is left to count, is the whole

@@ -1,4 +1,5 @@
-use Rattle.trees.proofs.Common.{[], ap, sym, ◌∙◌, arith, StampedBranch, trees_from, forest_of, common_steps}
+use Rattle.trees.proofs.Std.{[], ap, sym, ◌∙◌, arith, common_steps}
+use Rattle.trees.proofs.Common.{StampedBranch, trees_from, forest_of}
 use Rattle.trees.proofs.Cells.{seen_at}
 use Rattle.trees.proofs.store.Store.production.Goals as goal
 

@@ -1,4 +1,5 @@
-use Rattle.trees.proofs.Common.{ap, sym, ◌∙◌, min, branches, plain, most}
+use Rattle.trees.proofs.Std.{ap, sym, ◌∙◌, min}
+use Rattle.trees.proofs.Common.{branches, plain, most}
 use Rattle.trees.proofs.Cells.{seen_at}
 use Rattle.trees.proofs.store.Store.size.Goals as goal
 

@@ -1,4 +1,5 @@
-use Rattle.trees.proofs.Common.{[], ap, sym, ◌∙◌, min, length, yield, plain, most, trees_from, forest_of}
+use Rattle.trees.proofs.Std.{[], ap, sym, ◌∙◌, min, length}
+use Rattle.trees.proofs.Common.{yield, plain, most, trees_from, forest_of}
 use Rattle.trees.proofs.Cells.{seen_at}
 use Rattle.trees.proofs.store.Store.tokens.Goals as goal
 

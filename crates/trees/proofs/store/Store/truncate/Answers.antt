@@ -1,4 +1,5 @@
-use Rattle.trees.proofs.Common.{[], ◌≡◌, take, sym, ap, ◌∙◌, subst, rules, IsStore, tree}
+use Rattle.trees.proofs.Std.{[], ◌≡◌, take, sym, ap, ◌∙◌, subst, rules}
+use Rattle.trees.proofs.Common.{IsStore, tree}
 use Rattle.trees.proofs.Cells.{cells-take, take-tree}
 use Rattle.trees.proofs.store.Store.truncate.Goals as goal
 
