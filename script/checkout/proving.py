@@ -78,8 +78,10 @@ def prove_in_place(
     need_room(checkout.path("out"), crates * ROOM_OF_A_CRATE, "what is proved")
     # It also runs the program on its stored session and looks at the layout of files; what counts
     # is whether there is a program then.
-    rt = [sys.executable, "-IS", ALL_TEST, kit.path("bin/rt")] if kit.is_python() else ["rt"]
-    words = [*rt, "all", "test", "--jobs", str(lanes())]
+    words = ["rt", "all", "test", "--jobs", str(lanes())]
+    if kit.is_python():
+        sizes = [str(lanes()), str(BYTES_OF_A_CHECK)]
+        words = [sys.executable, "-IS", ALL_TEST, kit.path("bin/rt"), *sizes]
     follow(words, checkout.path("crates", program.crate), log, report)
     report()
 

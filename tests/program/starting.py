@@ -11,6 +11,8 @@ import re
 import shutil
 import signal
 import subprocess
+import sys
+import tempfile
 import time
 from typing import List, Tuple
 
@@ -36,6 +38,51 @@ PROVING = "lrls: proving and building the 3 crates of lrls; docs/GATE.md says ho
 DONE = "lrls: done with a, 1 of 3, after 0 min\n"
 UNMARKED = "lrls: lrls was built in a way that was not noted, and not proved\n"
 QUICK = ("quick, ran check x\n", "", 7)
+
+# A kit's `rt` that runs as it is, and one that has the parts by which crates go in the order of
+# `rt ci`: of its three crates the second one may fail, and the third stands on both others.
+PLAIN_KIT = """
+def main(words):
+    print(*words)
+    return 3
+"""
+ORDERING_KIT = """
+import types
+
+class Crate:
+    def __init__(self, name, status, low):
+        self.name, self.folder, self.status, self.low = name, name, status, low
+
+    def below(self):
+        return self.low
+
+    def count(self, what):
+        return 1
+
+    def makes_rlib(self):
+        return True
+
+    def build_rlib(self, flags, anew):
+        print(self.name, *flags, file=self.out)
+        return self.status
+
+    def test_whole(self, flags):
+        return 0
+
+low, mid = Crate("low", 0, []), Crate("mid", STATUS, [])
+crates = [low, mid, Crate("high", 0, [low, mid])]
+rtlib = types.SimpleNamespace(Crate=Crate, crates_below=lambda top: crates, lock=len, every=None)
+
+def in_lanes(tasks):
+    given = {}
+    for key, (waits, lines, room, call) in tasks.items():
+        given[key] = call(given, room)
+    return given
+
+def main(words):
+    print(*words)
+    return rtlib.every("test", 5)
+"""
 
 
 def timeless(ran: Tuple[str, str, int]) -> Tuple[str, str, int]:
@@ -401,6 +448,31 @@ def proves(cases: Cases, checkout: "Checkout") -> None:
     cases.check("nothing is left of a proof", [], checkout.left())
 
 
+def orders(cases: Cases, checkout: "Checkout") -> None:
+    """The crates are proved by a part of the script that the kit's `rt` is handed to."""
+    first = "all test --jobs 5\n== low\nlow --jobs 7\n== mid\nmid --jobs 7\n"
+    for name, kit, awaited in [
+        ("a kit of unknown parts", PLAIN_KIT, ("all test --jobs 5\n", 3)),
+        (
+            "each is proved",
+            ORDERING_KIT.replace("STATUS", "0"),
+            (f"{first}== high\nhigh --jobs 7\n", 0),
+        ),
+        ("one isn't proved", ORDERING_KIT.replace("STATUS", "1"), (f"{first}mid: failed (1)\n", 1)),
+    ]:
+        folder = tempfile.mkdtemp(dir=checkout.temporary)
+        words = ["-IS", checkout.path("script", "checkout", "all_test.py"), "rt", "5", "7"]
+        write(os.path.join(folder, "rt"), kit)
+        ran = subprocess.run(
+            [sys.executable, *words],
+            cwd=folder,
+            stdout=subprocess.PIPE,
+            encoding="utf-8",
+            check=False,
+        )
+        cases.check(f"prove in order: {name}", awaited, (ran.stdout, ran.returncode))
+
+
 def served_alone(cases: Cases, checkout: "Checkout") -> None:
     """An editor that starts one of two programs doesn't wait for the other."""
     checkout.forget()
@@ -602,5 +674,6 @@ def run(cases: Cases, folder: str, refused: List[List[str]], usage: str) -> None
     ended(cases, checkout)
     for_an_editor(cases, checkout)
     proves(cases, checkout)
+    orders(cases, checkout)
     two_programs(cases, checkout)
     versions(cases, checkout)
