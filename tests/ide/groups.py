@@ -115,6 +115,17 @@ def outline(cases: Cases, _: str) -> None:
             cases.check(f"a plain list: {name}", listed, rows)
 
 
+def deep_outline(cases: Cases, _: str) -> None:
+    """A symbol that lies in more than 64 others is shown as if it lay in 64."""
+    count = 70
+    text = "".join(f'{{"k{number}":' for number in range(count)) + "0" + "}" * count
+    with Client("json") as client:
+        client.open(URI, text)
+        rows = [(row[0], row[2]) for row in outlined(client.outline(URI))]
+        awaited = [(min(number, 64), f"k{number}") for number in range(count)]
+        cases.check("an outline of 70 levels", awaited, rows)
+
+
 def faulty_outline(
     cases: Cases, client: Client, name: str, text: str, line: int, awaited: Sequence[Entry]
 ) -> None:
@@ -254,7 +265,7 @@ def unchanged(cases: Cases, _: str) -> None:
 
 
 GROUPS: List[Group] = [
-    *(colours, early, outline, completion, messages, hovers, unchanged),
+    *(colours, early, outline, deep_outline, completion, messages, hovers, unchanged),
     *behind.GROUPS,
     *crates.GROUPS,
     *faulty.GROUPS,

@@ -19,6 +19,7 @@ LEAST: Dict[str, int] = {
     "colours": 323,
     "early": 12,
     "outline": 75,
+    "deep_outline": 1,
     "completion": 985,
     "messages": 86,
     "hovers": 32,

@@ -1,3 +1,5 @@
 pub mod Counts
 pub mod Wholes
 mod Fractions
+pub mod Levels
+mod OutlineRows

@@ -1,12 +1,13 @@
 -- Nothing that is sent has a number with a fraction.
-use Rattle.std.proofs.Common.{◌||◌, ◌≡◌, ℕ, ℤ, List, [], ◌∷◌, Option, Some, None, Bool, true, false, if◌then◌else◌, refl, ap}
+use Rattle.std.proofs.Common.{◌||◌, ◌≡◌, ℕ, zero, suc, ◌+◌, nat_le, ℤ, List, [], ◌∷◌, Option, Some, None, Bool, true, false, if◌then◌else◌, refl, ap}
 use Rattle.definitions.specs.declared.Range.{Range}
-use Rattle.serde_json.specs.Data.{Data, array, item, null}
+use Rattle.serde_json.specs.Data.{Data, Items, array, item, null}
 use Rattle.serde_json.specs.Written.{has_float, items_have_float}
 use Rattle.replies.proofs.Replies.{reply_is_whole, result_is_whole, id_is_whole, integer_is_whole}
 use Rattle.replies.specs.Replies.{id_data, published}
-use Rattle.editor_replies.specs.Sent.{Message, NumbersEdit, OfferData, WordedFault, of_core, capabilities, changes, colours, offers, own, some_result, worded, grown, cancelled, notice, call}
-use Rattle.editor_replies.specs.Sending.{changes_result, colours_result, fault_data, initialized_data, message_data, number_items, offer_items, offers_result, text_items, value_items, without_fractions, call_data}
+use Rattle.editor_replies.specs.Sent.{HoverData, Message, NumbersEdit, OfferData, SymbolData, WordedFault, of_core, brackets, capabilities, changes, colours, offers, outline, own, some_result, worded, grown, hover, cancelled, notice, call}
+use Rattle.editor_replies.specs.Sending.{brackets_result, changes_result, colours_result, hover_result, offers_result, outline_result}
+use Rattle.editor_replies.specs.Sending.{fault_data, forest, initialized_data, inside, listed_items, message_data, most_depth, nested_data, number_items, offer_items, text_items, value_items, without_fractions, call_data}
 
 numbers_are_whole : (numbers : List ℕ) → items_have_float (number_items numbers) ≡ false
 numbers_are_whole [] = refl
@@ -27,6 +28,41 @@ changes_are_whole name (Some change) = ap (λ b. ((b || false) || false) || fals
 offers_are_whole : (range : Range) (found : List OfferData) → items_have_float (offer_items range found) ≡ false
 offers_are_whole range [] = refl
 offers_are_whole range (o ∷ found) = offers_are_whole range found
+
+-- b says whether a symbol is shown
+either_is_whole : (b : Bool) (first others : Items) → items_have_float first ≡ false → items_have_float others ≡ false → items_have_float (if b then first else others) ≡ false
+either_is_whole true first others one rest = one
+either_is_whole false first others one rest = rest
+
+symbol_is_whole : (s : SymbolData) (inner rest : Items) → items_have_float inner ≡ false → items_have_float rest ≡ false → items_have_float (item (nested_data s inner) rest) ≡ false
+symbol_is_whole s inner rest one others = rw (one, others) refl
+
+forest_is_whole : (levels depth : ℕ) (symbols : List SymbolData) → items_have_float (forest levels depth symbols) ≡ false
+forest_is_whole zero depth [] = refl
+forest_is_whole zero depth (s ∷ symbols) = forest_is_whole zero depth symbols
+forest_is_whole (suc levels) depth [] = refl
+forest_is_whole (suc levels) depth (s ∷ symbols) =
+    let rest = forest (suc levels) depth symbols in
+    let inner = forest levels (depth + 1) (inside depth symbols) in
+    let others = forest_is_whole (suc levels) depth symbols in
+    either_is_whole (nat_le s.depth depth) (item (nested_data s inner) rest) rest
+    (symbol_is_whole s inner rest (forest_is_whole levels (depth + 1) (inside depth symbols)) others) others
+
+list_is_whole : (uri : List ℕ) (symbols : List SymbolData) → items_have_float (listed_items uri symbols) ≡ false
+list_is_whole uri [] = refl
+list_is_whole uri (s ∷ symbols) = list_is_whole uri symbols
+
+outline_is_whole : (list_of : Option (List ℕ)) (symbols : List SymbolData) → has_float (outline_result list_of symbols) ≡ false
+outline_is_whole None symbols = forest_is_whole most_depth 0 symbols
+outline_is_whole (Some uri) symbols = list_is_whole uri symbols
+
+hover_is_whole : (shown : Option HoverData) → has_float (hover_result shown) ≡ false
+hover_is_whole None = refl
+hover_is_whole (Some h) = refl
+
+brackets_are_whole : (pair : Option (Range × Range)) → has_float (brackets_result pair) ≡ false
+brackets_are_whole None = refl
+brackets_are_whole (Some pair) = refl
 
 -- b says whether the value has a fraction
 if_whole : (value : Data) (b : Bool) → has_float value ≡ b → has_float (if b then null else value) ≡ false
@@ -58,6 +94,10 @@ message_is_whole (capabilities id unit name comment types) =
 message_is_whole (colours id name numbers) = result_is_whole (id_data id) (colours_result name numbers) (id_is_whole id) (colours_are_whole name numbers)
 message_is_whole (offers id range found) =
     result_is_whole (id_data id) (offers_result range found) (id_is_whole id) (ap (λ b. b || false) (offers_are_whole range found))
+message_is_whole (outline id list_of symbols) =
+    result_is_whole (id_data id) (outline_result list_of symbols) (id_is_whole id) (outline_is_whole list_of symbols)
+message_is_whole (hover id shown) = result_is_whole (id_data id) (hover_result shown) (id_is_whole id) (hover_is_whole shown)
+message_is_whole (brackets id pair) = result_is_whole (id_data id) (brackets_result pair) (id_is_whole id) (brackets_are_whole pair)
 message_is_whole (some_result id value) = result_is_whole (id_data id) (without_fractions value) (id_is_whole id) (if_whole value (has_float value) refl)
 message_is_whole (changes id name change) = result_is_whole (id_data id) (changes_result name change) (id_is_whole id) (changes_are_whole name change)
 message_is_whole (cancelled id) = ap (λ b. b || false) (id_is_whole id)

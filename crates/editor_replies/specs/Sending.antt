@@ -1,20 +1,20 @@
 -- What the editor's server sends, as JSON values (LSP 3.17, "Semantic Tokens", "Initialize Request").
-use Rattle.std.specs.Prelude.{true, false, negsuc, ℕ, List, codes, flat_map, if◌then◌else◌, map, Option, Some, None, option_map}
+use Rattle.std.specs.Prelude.{Bool, true, false, negsuc, ℕ, zero, suc, ◌+◌, nat_le, nat_lt, List, [], ◌∷◌, codes, flat_map, if◌then◌else◌}
+use Rattle.std.specs.Prelude.{map, take_while, Option, Some, None, option_map}
 use Rattle.serde_json.specs.Data.{Data, Items, array, boolean, item, member, no_items, no_members, null, number, object, string, unsigned}
 use Rattle.serde_json.specs.View.{items_of, view}
 use Rattle.definitions.specs.declared.Range.{Range}
 use Rattle.definitions.specs.declared.Unit.{Unit as Encoding}
 use Rattle.frames.specs.Write.{frame}
-use Rattle.replies.specs.Ids.{Ident}
 use Rattle.replies.specs.Replies.{diagnostic_data, error_data, error_object, id_data, notice_data, published, range_data, reply_data}
 use Rattle.replies.specs.Replies.{result_data}
 use Rattle.replies.specs.Replies.{synchronisation, unit_name}
 use Rattle.serde_json.specs.Written.{compact_text, has_float}
 use Rattle.editor_replies.specs.declared.sending.Outcome.{Outcome}
 use Rattle.editor_replies.specs.declared.sending.Outcome.TheVariants as put
-use Rattle.editor_replies.specs.Sent.{Message, NumbersEdit, OfferData, WordedFault, change_view, offer_view}
+use Rattle.editor_replies.specs.Sent.{Message, NumbersEdit, OfferData, SymbolData, WordedFault, change_view, offer_view}
 use Rattle.editor_replies.specs.Sent.{call, cancelled, capabilities, changes, colours, grown, notice, of_core, offers, own, some_result}
-use Rattle.editor_replies.specs.Sent.{worded}
+use Rattle.editor_replies.specs.Sent.{HoverData, brackets, hover, hover_view, outline, pair_view, symbol_view, worded}
 
 -- the JSON values of numbers, in order
 abbrev pub number_items : List ℕ → Items
@@ -140,6 +140,93 @@ location_data uri range = object
     (member (codes "range") (range_data range)
     (member (codes "uri") (string uri) no_members))
 
+-- `nested_data symbol inner`: a symbol, with those that lie in it (LSP 3.17, "DocumentSymbol")
+abbrev pub nested_data : SymbolData → Items → Data
+nested_data symbol inner = object
+    (member (codes "children") (array inner)
+    (member (codes "kind") (number (unsigned symbol.kind))
+    (member (codes "name") (string symbol.name)
+    (member (codes "range") (range_data symbol.range)
+    (member (codes "selectionRange") (range_data symbol.selection) no_members)))))
+
+-- `inside depth symbols`: those at the head of the symbols that lie in more than `depth` others
+abbrev pub inside : ℕ → List SymbolData → List SymbolData
+inside depth symbols = take_while (λ s. nat_lt depth s.depth) symbols
+
+-- `forest levels depth symbols`: the symbols that lie in at most `depth` others, in order, and in each those behind it that lie deeper, up
+-- to the next one of these; that goes on for so many levels, and on the last one all of them stand one after another
+abbrev pub forest : ℕ → ℕ → List SymbolData → Items
+forest zero depth [] = no_items
+forest zero depth (s ∷ symbols) = item (nested_data s no_items) (forest zero depth symbols)
+forest (suc levels) depth [] = no_items
+forest (suc levels) depth (s ∷ symbols) =
+    if nat_le s.depth depth
+    then item (nested_data s (forest levels (depth + 1) (inside depth symbols))) (forest (suc levels) depth symbols)
+    else forest (suc levels) depth symbols
+
+-- `is_shown_at levels depth symbol`: whether a symbol is one of those of `forest levels depth` that lie in no others of them
+abbrev pub is_shown_at : ℕ → ℕ → SymbolData → Bool
+is_shown_at zero depth symbol = true
+is_shown_at (suc levels) depth symbol = nat_le symbol.depth depth
+
+-- `below levels depth symbols`: what `forest levels depth` has in a symbol that has these behind it
+abbrev pub below : ℕ → ℕ → List SymbolData → Items
+below zero depth symbols = no_items
+below (suc levels) depth symbols = forest levels (depth + 1) (inside depth symbols)
+
+-- `listed_data uri symbol`: a symbol of the document of a URI, without those that lie in it (LSP 3.17, "SymbolInformation")
+abbrev pub listed_data : List ℕ → SymbolData → Data
+listed_data uri symbol = object
+    (member (codes "kind") (number (unsigned symbol.kind))
+    (member (codes "location") (location_data uri symbol.range)
+    (member (codes "name") (string symbol.name) no_members)))
+
+-- `listed_items uri symbols`: the symbols of the document of a URI, one after another
+abbrev pub listed_items : List ℕ → List SymbolData → Items
+listed_items uri symbols = items_of (map (listed_data uri) symbols)
+
+-- in how many others a symbol is shown at most
+abbrev pub most_depth : ℕ
+most_depth = 64
+
+-- `outline_result list_of symbols`: the symbols, each with those that lie in it; or, where the URI of their document is given, one after
+-- another (LSP 3.17, "Document Symbols Request")
+abbrev pub outline_result : Option (List ℕ) → List SymbolData → Data
+outline_result None symbols = array (forest most_depth 0 symbols)
+outline_result (Some uri) symbols = array (listed_items uri symbols)
+
+-- `content_data form text`: a text in its form (LSP 3.17, "MarkupContent")
+abbrev pub content_data : List ℕ → List ℕ → Data
+content_data form text = object
+    (member (codes "kind") (string form)
+    (member (codes "value") (string text) no_members))
+
+-- a text about a range (LSP 3.17, "Hover")
+abbrev pub hover_data : HoverData → Data
+hover_data h = object
+    (member (codes "contents") (content_data h.form h.text)
+    (member (codes "range") (range_data h.range) no_members))
+
+-- the text about what stands at a position, if there is one (LSP 3.17, "Hover Request")
+abbrev pub hover_result : Option HoverData → Data
+hover_result None = null
+hover_result (Some h) = hover_data h
+
+-- a range that is highlighted, neither as read nor as written (LSP 3.17, "DocumentHighlight")
+abbrev pub highlight_data : Range → Data
+highlight_data range = object
+    (member (codes "kind") (number (unsigned 1))
+    (member (codes "range") (range_data range) no_members))
+
+-- two brackets
+abbrev pub pair_data : Range × Range → Data
+pair_data pair = array (item (highlight_data pair.0) (item (highlight_data pair.1) no_items))
+
+-- the brackets of a node, if any (LSP 3.17, "Document Highlights Request")
+abbrev pub brackets_result : Option (Range × Range) → Data
+brackets_result None = array no_items
+brackets_result (Some pair) = pair_data pair
+
 -- what stands beside a diagnostic, at its own place (LSP 3.17, "DiagnosticRelatedInformation")
 abbrev pub related_data : List ℕ → Range → List ℕ → Data
 related_data uri range text = object
@@ -203,6 +290,9 @@ message_data (capabilities id unit name comment types) = result_data (id_data id
 message_data (colours id name numbers) = result_data (id_data id) (colours_result name numbers)
 message_data (changes id name change) = result_data (id_data id) (changes_result name change)
 message_data (offers id range found) = result_data (id_data id) (offers_result range found)
+message_data (outline id list_of symbols) = result_data (id_data id) (outline_result list_of symbols)
+message_data (hover id shown) = result_data (id_data id) (hover_result shown)
+message_data (brackets id pair) = result_data (id_data id) (brackets_result pair)
 message_data (worded fault text) = worded_data fault
 message_data (grown answer sent) = reply_data sent
 message_data (some_result id value) = result_data (id_data id) (without_fractions value)
@@ -216,6 +306,9 @@ abbrev pub outcome_data : Outcome → Data
 outcome_data (put.Capabilities unit name comment types) = initialized_data unit name.now comment.now (map (λ text. text.now) types.now)
 outcome_data (put.Colours name numbers) = colours_result (option_map (λ text. text.now) name) numbers.now
 outcome_data (put.Offers range found) = offers_result range (map offer_view found.now)
+outcome_data (put.Outline list_of symbols) = outline_result (option_map (λ text. text.now) list_of) (map symbol_view symbols.now)
+outcome_data (put.Hover found form) = hover_result (option_map (hover_view form) found.now)
+outcome_data (put.Brackets pair) = brackets_result (option_map pair_view pair)
 outcome_data (put.Value value) = without_fractions (view value.now)
 outcome_data (put.Changes name change) = changes_result name.now (option_map change_view change.now)
 

@@ -17,7 +17,11 @@ use serde::Serializer;
 use serde_json::Value;
 
 /// Where something is (LSP 3.17, "Location").
-fn send_location<S: Serializer>(uri: &str, range: Range, out: &mut S) -> Result<(), S::Error>
+pub(crate) fn send_location<S: Serializer>(
+    uri: &str,
+    range: Range,
+    out: &mut S,
+) -> Result<(), S::Error>
     ensures { OnOk result
         (SendsValue (location_data uri.now range) (S.written out.old) (S.written out.new)) }
 {

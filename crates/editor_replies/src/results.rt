@@ -1,16 +1,9 @@
-//! Results that are JSON values: outlines, hovers, the brackets of a node, and what mends faults.
+//! Results that are JSON values: what mends faults.
 
 use definitions::{Position, Range};
 use faults::{FaultBehind, Fix};
-use hover::{BracketPair, HoverText, Markup};
-use outline::OutlineSymbol;
 use serde_json::{Map, Value, json};
 use std::alloc::{AllocError, Global};
-use std::mem::replace;
-
-/// A symbol that lies in more others is shown as if it lay in so many: an editor's own reader of
-/// JSON goes only so deep.
-const MOST_DEPTH: usize = 64;
 
 /// A position (LSP 3.17, "Position").
 pub(crate) fn position_value(alloc: Global, position: Position) -> Result<Value, AllocError> {
@@ -22,110 +15,6 @@ fn range_value(alloc: Global, range: Range) -> Result<Value, AllocError> {
     let start = position_value(alloc, range.start)?;
     let end = position_value(alloc, range.end)?;
     json!(in alloc; {"end": end, "start": start})
-}
-
-/// A symbol, with those that lie in it (LSP 3.17, "DocumentSymbol").
-fn symbol_value(
-    alloc: Global,
-    symbol: &OutlineSymbol,
-    children: Vec<Value>,
-) -> Result<Value, AllocError> {
-    let range = range_value(alloc, symbol.range)?;
-    let selection = range_value(alloc, symbol.selection)?;
-    let name = symbol.name.as_str();
-    json!(in alloc; {
-        "children": children,
-        "kind": symbol.kind,
-        "name": name,
-        "range": range,
-        "selectionRange": selection
-    })
-}
-
-/// An empty list for each depth, and one more.
-fn levels(alloc: Global) -> Result<Vec<Vec<Value>>, AllocError> {
-    let mut levels = Vec::new(alloc);
-    for _ in 0..MOST_DEPTH + 2 {
-        levels.push(Vec::new(alloc))?;
-    }
-    Ok(levels)
-}
-
-/// What is in the list of this depth, which is empty then: from the last symbol to the first.
-fn taken(levels: &mut [Vec<Value>], alloc: Global, depth: usize) -> Vec<Value> {
-    match levels.get_mut(depth) {
-        Some(level) => {
-            let mut symbols = replace(level, Vec::new(alloc));
-            symbols.reverse();
-            symbols
-        }
-        None => Vec::new(alloc),
-    }
-}
-
-/// The symbols, each with those that lie in it. They are gone through from the last one on, so
-/// that those that lie in one are there before it.
-fn nested(alloc: Global, symbols: &[OutlineSymbol]) -> Result<Vec<Value>, AllocError> {
-    let mut levels = levels(alloc)?;
-    for symbol in symbols.iter().rev() {
-        let depth = symbol.depth.min(MOST_DEPTH);
-        let children = taken(&mut levels, alloc, depth + 1);
-        let value = symbol_value(alloc, symbol, children)?;
-        if let Some(level) = levels.get_mut(depth) {
-            level.push(value)?;
-        }
-    }
-    Ok(taken(&mut levels, alloc, 0))
-}
-
-/// The symbols one after another (LSP 3.17, "SymbolInformation").
-fn flat(alloc: Global, uri: &str, symbols: &[OutlineSymbol]) -> Result<Vec<Value>, AllocError> {
-    let mut values = Vec::with_capacity(alloc, symbols.len())?;
-    for symbol in symbols {
-        let range = range_value(alloc, symbol.range)?;
-        let name = symbol.name.as_str();
-        let value = json!(in alloc; {
-            "kind": symbol.kind,
-            "location": {"range": range, "uri": uri},
-            "name": name
-        })?;
-        values.push(value)?;
-    }
-    Ok(values)
-}
-
-/// An outline: each symbol with those that lie in it, or all of them one after another, for an
-/// editor that knows no others. Refuses for memory alone.
-pub fn outline_value(
-    alloc: Global,
-    uri: &str,
-    symbols: &[OutlineSymbol],
-    is_nested: bool,
-) -> Result<Value, AllocError> {
-    if is_nested {
-        Ok(Value::Array(nested(alloc, symbols)?))
-    } else {
-        Ok(Value::Array(flat(alloc, uri, symbols)?))
-    }
-}
-
-/// What stands at a place (LSP 3.17, "Hover"); `null` where nothing does. Refuses for memory
-/// alone.
-pub fn hover_value(
-    alloc: Global,
-    hover: &Option<HoverText>,
-    markup: Markup,
-) -> Result<Value, AllocError> {
-    let Some(hover) = hover else {
-        return Ok(Value::Null);
-    };
-    let kind = match markup {
-        Markup::Plain => "plaintext",
-        Markup::Markdown => "markdown",
-    };
-    let range = range_value(alloc, hover.range)?;
-    let text = hover.text.as_str();
-    json!(in alloc; {"contents": {"kind": kind, "value": text}, "range": range})
 }
 
 /// Something that is said of a place, beside a diagnostic
@@ -217,17 +106,6 @@ pub fn fixes_value(alloc: Global, uri: &str, fixes: &[Fix]) -> Result<Value, All
         values.push(fix_value(alloc, uri, fix)?)?;
     }
     Ok(Value::Array(values))
-}
-
-/// The brackets of a node (LSP 3.17, "DocumentHighlight", of kind 1, a text); none where there are
-/// none. Refuses for memory alone.
-pub fn brackets_value(alloc: Global, pair: &Option<BracketPair>) -> Result<Value, AllocError> {
-    let Some(pair) = pair else {
-        return json!(in alloc; []);
-    };
-    let opening = range_value(alloc, pair.opening)?;
-    let closing = range_value(alloc, pair.closing)?;
-    json!(in alloc; [{"kind": 1, "range": opening}, {"kind": 1, "range": closing}])
 }
 
 /// What who edits is told, with the protocol's number of how much it weighs

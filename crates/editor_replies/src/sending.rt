@@ -12,10 +12,14 @@ ghost use Rattle.editor_replies.specs.Sending.{capability_list, changes_option, 
 use crate::diagnostics::send_worded;
 use crate::numbers::{send_changes, send_colours};
 use crate::offers::send_offers;
+use crate::places::{send_brackets, send_hover};
 use crate::remarks::{send_call, send_cancelled, send_notice};
 use crate::sent::{Change, Offered, Sent};
+use crate::symbols::send_outline;
 use crate::values::send_value;
 use definitions::{Range, Unit};
+use hover::{BracketPair, HoverText, Markup};
+use outline::OutlineSymbol;
 use replies::{Id, send_id, send_reply, send_synchronisation, unit_name};
 use serde::{Described, Serialize, Serializer};
 use serde_json::Value;
@@ -186,6 +190,9 @@ pub(crate) enum Outcome<'s> {
     Colours(Option<&'s str>, &'s [u32]),
     Changes(&'s str, &'s Option<Change>),
     Offers(Range, &'s [Offered]),
+    Outline(Option<&'s str>, &'s [OutlineSymbol]),
+    Hover(&'s Option<HoverText>, Markup),
+    Brackets(Option<BracketPair>),
     Value(&'s Value),
 }
 
@@ -201,6 +208,9 @@ fn send_outcome<S: Serializer>(outcome: Outcome<'_>, out: &mut S) -> Result<(), 
         Outcome::Colours(name, numbers) => send_colours(name, numbers, out),
         Outcome::Changes(name, change) => send_changes(name, change, out),
         Outcome::Offers(range, found) => send_offers(range, found, out),
+        Outcome::Outline(list_of, symbols) => send_outline(list_of, symbols, out),
+        Outcome::Hover(found, form) => send_hover(found, form, out),
+        Outcome::Brackets(pair) => send_brackets(pair, out),
         Outcome::Value(value) => send_value(value, out),
     }
 }
@@ -262,6 +272,13 @@ fn send_message<S: Serializer>(message: &Sent, out: &mut S) -> Result<(), S::Err
         Sent::Offers { id, range, found } => {
             send_result(id, Outcome::Offers(*range, found), out)
         }
+        Sent::Outline {
+            id,
+            list_of,
+            symbols,
+        } => send_result(id, Outcome::Outline(lent(list_of), symbols), out),
+        Sent::Hover { id, found, form } => send_result(id, Outcome::Hover(found, *form), out),
+        Sent::Brackets { id, pair } => send_result(id, Outcome::Brackets(*pair), out),
         Sent::Result { id, value } => send_result(id, Outcome::Value(value), out),
         Sent::Cancelled { id } => send_cancelled(id, out),
         Sent::Notice { method, params } => send_notice(method, params, out),

@@ -1,6 +1,8 @@
 //! What the editor's server sends.
 
 use definitions::{Range, Unit};
+use hover::{BracketPair, HoverText, Markup};
+use outline::OutlineSymbol;
 use replies::{Id, Reply};
 use serde_json::Value;
 
@@ -74,6 +76,26 @@ pub enum Sent {
         id: Id,
         range: Range,
         found: Vec<Offered>,
+    },
+    /// The symbols of a document, each with those that lie in it; or, where `list_of` has the URI
+    /// of the document, one after another, for an editor that knows no others
+    /// (LSP 3.17, "Document Symbols Request").
+    Outline {
+        id: Id,
+        list_of: Option<String>,
+        symbols: Vec<OutlineSymbol>,
+    },
+    /// The text about what stands at a position, in this form, if there is one
+    /// (LSP 3.17, "Hover Request").
+    Hover {
+        id: Id,
+        found: Option<HoverText>,
+        form: Markup,
+    },
+    /// The brackets of a node, if any (LSP 3.17, "Document Highlights Request").
+    Brackets {
+        id: Id,
+        pair: Option<BracketPair>,
     },
     /// The fault of a document as it is shown, and the text that the core has for it
     /// (LSP 3.17, "PublishDiagnostics Notification").

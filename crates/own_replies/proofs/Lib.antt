@@ -3,3 +3,4 @@ mod Refusals
 pub mod OwnAlone
 mod ReplyRows
 mod Repaired
+mod Symbols

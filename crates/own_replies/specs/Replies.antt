@@ -1,6 +1,6 @@
 -- What the editor's server replies to the requests that the core doesn't know.
 use Rattle.std.specs.Prelude.{◌≡◌, ◌⊎◌, ◌+◌, ◌&&◌, ℕ, List, ◌++◌, take, drop, map, decimal, if◌then◌else◌}
-use Rattle.std.specs.Prelude.{Option, Some, None, Bool, true, false, codes}
+use Rattle.std.specs.Prelude.{Option, Some, None, Bool, true, false, codes, option_map, All, Contains, IfSome}
 use Rattle.std.specs.FinMap.{get}
 use Rattle.std.specs.Str.{bytes_eq}
 use Rattle.serde_json.specs.Data.{Data, null, string}
@@ -15,7 +15,14 @@ use Rattle.docs.specs.declared.language.LoadFault.{LoadFault}
 use Rattle.docs.specs.declared.language.LoadFault.TheVariants.{Memory}
 use Rattle.grammar.specs.Grammars.{FileGrammar}
 use Rattle.completion.specs.Offers.{AreOffers}
+use Rattle.hover.specs.Ranges.{AreBrackets, IsRangeAt}
+use Rattle.hover.specs.declared.hovers.HoverText.{HoverText}
+use Rattle.hover.specs.declared.markup.Markup.{Markup}
+use Rattle.hover.specs.declared.partners.BracketPair.{BracketPair}
 use Rattle.mending.specs.Mendings.{IsMended}
+use Rattle.outline.specs.Nesting.{AreNested}
+use Rattle.outline.specs.Symbols.{IsPlaced}
+use Rattle.outline.specs.declared.symbols.OutlineSymbol.{OutlineSymbol}
 use Rattle.mending.specs.declared.repair.Repair.{Repair}
 use Rattle.colours.specs.Parts.{Scans, coloured, decoded, within}
 use Rattle.readings.specs.Texts.{OpenDocument}
@@ -25,7 +32,8 @@ use Rattle.replies.specs.declared.reply.Refusal.TheVariants.{DocumentLost, Docum
 use Rattle.sessions.specs.Documents.{DocumentState, is_lost, is_open}
 use Rattle.questions.specs.Asked.{Asked, Question, a_grammar, about, its_brackets, its_changes, its_colours, its_fixes, its_hover}
 use Rattle.questions.specs.Asked.{its_lines, its_nodes, its_offers, its_outline, its_rows, misfit}
-use Rattle.editor_replies.specs.Sent.{Message, NumbersEdit, OfferData, changes, colours, offers, own, some_result}
+use Rattle.editor_replies.specs.Sent.{Message, NumbersEdit, OfferData, brackets, changes, colours, hover, hover_view, offers, outline, own}
+use Rattle.editor_replies.specs.Sent.{pair_view, some_result, symbol_view}
 use Rattle.own_replies.specs.States.{IdeState, Told, next}
 
 -- the numbers decode to exactly the parts of those tokens of the document whose rule has a colour (LSP 3.17, "Semantic Tokens")
@@ -90,6 +98,33 @@ AreOffersAt old id d place message =
     × (map (λ o. o.text) shown_offers ≡ map (λ r. r.1) found)
     × (message ≡ offers id (between d start (offset d.unit d.text place)) shown_offers)
 
+-- `IsSymbol kinds d s`: a symbol stands in the text of a document, with its name in it, and has one of these kinds
+abbrev pub IsSymbol : List ℕ → OpenDocument → OutlineSymbol → Type 0
+IsSymbol kinds d s = IsPlaced d.unit d.text s × Contains kinds s.kind
+
+-- `IsNoneOr uri list_of`: there is none, or this one
+abbrev pub IsNoneOr : List ℕ → Option (List ℕ) → Type 0
+IsNoneOr uri list_of = (list_of ≡ None) ⊎ (list_of ≡ Some uri)
+
+-- `IsOutline old id uri d message`: symbols of a document are sent, with the kinds that the settings have, each before those that lie in
+-- it; as a list, with the URI of the document, or not
+abbrev pub IsOutline : IdeState → Ident → List ℕ → OpenDocument → Message → Type 0
+IsOutline old id uri d message =
+    (symbols : List OutlineSymbol) × (list_of : Option (List ℕ)) × All (IsSymbol old.shown.kinds d) symbols
+    × AreNested (map (λ s. s.depth) symbols) × IsNoneOr uri list_of
+    × (message ≡ outline id list_of (map symbol_view symbols))
+
+-- `IsHover id d place message`: a text in some form is sent about a range of a document that has a position, or that there is none
+abbrev pub IsHover : Ident → OpenDocument → Position → Message → Type 0
+IsHover id d place message =
+    (found : Option HoverText) × (form : Markup) × IfSome found (λ h. IsRangeAt d.unit d.text place h.range)
+    × (message ≡ hover id (option_map (hover_view form) found))
+
+-- `AreBracketsAt id d place message`: two brackets of a document are sent, one of which has a position, or that there are none
+abbrev pub AreBracketsAt : Ident → OpenDocument → Position → Message → Type 0
+AreBracketsAt id d place message =
+    (pair : Option BracketPair) × IfSome pair (AreBrackets d.unit d.text place) × (message ≡ brackets id (option_map pair_view pair))
+
 -- `IsSomeResult id message`: a result, whichever
 abbrev pub IsSomeResult : Ident → Message → Type 0
 IsSomeResult id message = (value : Data) × (message ≡ some_result id value)
@@ -99,8 +134,8 @@ abbrev pub IsSomeResultIfFit : Ident → Message → Type 0
 IsSomeResultIfFit id message = IsSomeResult id message ⊎ (message ≡ own (error_reply (Some id) InvalidParams))
 
 -- `IsReplyOf old id uri d question message new`: what is replied about the open document of a URI, and what stays of it: its colours,
--- what has changed of them, or those of some lines; what may follow at a position; or some outline, text about a position, brackets, fixes,
--- rows of tokens, or nodes, if those that are named are a list of ways
+-- what has changed of them, or those of some lines; what may follow at a position; symbols; a text about what stands at a position, or
+-- brackets; or some fixes, rows of tokens, or nodes, if those that are named are a list of ways
 abbrev pub IsReplyOf : IdeState → Ident → List ℕ → OpenDocument → Question → Message → IdeState → Type 0
 IsReplyOf old id uri d its_colours message new =
     (numbers : List ℕ) × AreColours old d numbers × (message ≡ colours id (Some (next_name old)) numbers)
@@ -111,9 +146,9 @@ IsReplyOf old id uri d (its_changes previous) message new =
 IsReplyOf old id uri d (its_lines first end) message new =
     (numbers : List ℕ) × AreColoursOfLines old d first end numbers × (message ≡ colours id None numbers) × (new ≡ old)
 IsReplyOf old id uri d (its_offers place) message new = AreOffersAt old id d place message × (new ≡ old)
-IsReplyOf old id uri d its_outline message new = IsSomeResult id message × (new ≡ old)
-IsReplyOf old id uri d (its_hover place) message new = IsSomeResult id message × (new ≡ old)
-IsReplyOf old id uri d (its_brackets place) message new = IsSomeResult id message × (new ≡ old)
+IsReplyOf old id uri d its_outline message new = IsOutline old id uri d message × (new ≡ old)
+IsReplyOf old id uri d (its_hover place) message new = IsHover id d place message × (new ≡ old)
+IsReplyOf old id uri d (its_brackets place) message new = AreBracketsAt id d place message × (new ≡ old)
 IsReplyOf old id uri d (its_fixes range) message new = IsSomeResult id message × (new ≡ old)
 IsReplyOf old id uri d (its_rows first end) message new = IsSomeResult id message × (new ≡ old)
 IsReplyOf old id uri d (its_nodes place named) message new = IsSomeResultIfFit id message × (new ≡ old)

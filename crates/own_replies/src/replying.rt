@@ -1,6 +1,6 @@
 //! The replies to the requests that the core doesn't know.
 
-ghost use Rattle.std.specs.Prelude.{◌≡◌, Some, string_bytes, IfOk};
+ghost use Rattle.std.specs.Prelude.{◌≡◌, Some, option_map, string_bytes, IfOk};
 ghost use Rattle.std.specs.FinMap.{get};
 ghost use Rattle.docs.specs.Docs.{open_document, IsCurrent};
 ghost use Rattle.replies.specs.Ids.{id_view};
@@ -8,7 +8,7 @@ ghost use Rattle.rpc.specs.Replies.{error_reply};
 ghost use Rattle.server.specs.States.{language_of};
 ghost use Rattle.editor_replies.specs.Sent.{colours, message_view, own};
 ghost use Rattle.questions.specs.Asked.{asked_view, question_view};
-ghost use Rattle.own_replies.specs.Replies.{next_name, since, tells, AreChanges, AreOffersAt, AreRepairsOf, IsReply, IsReplyAbout, IsReplyOf, IsSomeResultIfFit};
+ghost use Rattle.own_replies.specs.Replies.{next_name, since, tells, AreBracketsAt, AreChanges, AreOffersAt, AreRepairsOf, IsHover, IsNoneOr, IsOutline, IsReply, IsReplyAbout, IsReplyOf, IsSomeResultIfFit};
 ghost use Rattle.own_replies.specs.Servers.{after, replying_state, state_with};
 
 use crate::grammars::grammar_reply;
@@ -19,9 +19,7 @@ use colours::{full, lines};
 use completion::{Offers, offers_at};
 use definitions::{Position, Range};
 use docs::{Doc, Language};
-use editor_replies::{
-    Sent, Value, brackets_value, fixes_value, hover_value, nodes_value, outline_value, rows_value,
-};
+use editor_replies::{Sent, Value, fixes_value, nodes_value, rows_value};
 use faults::About;
 use flat_trees::{following, looked_at};
 use hover::{Markup, brackets, hover};
@@ -178,46 +176,76 @@ impl<'a> Replying<'a> {
         Ok(Sent::Offers { id, range, found })
     }
 
-    /// The outline of an open document, in the form that the editor knows.
-    fn outline(&self, alloc: Global, uri: &str, doc: &Doc) -> Result<Value, AllocError>
-        requires { IsCurrent (language_of self.now.known.now.core) doc.now }
+    /// The URI of a document whose symbols are sent one after another, since the editor knows no
+    /// others.
+    fn list_of(&self, alloc: Global, uri: &str) -> Result<Option<String>, AllocError>
+        ensures { IfOk result (λ list_of. IsNoneOr uri.now
+            (option_map (λ text. string_bytes text) list_of)) }
     {
-        let (language, settings) = (self.language(), &self.known.shown.settings);
-        let symbols = outline(alloc, language, settings, doc, self.known.kept(doc))?;
-        outline_value(alloc, uri, &symbols, self.known.client.nested)
+        if self.known.client.nested {
+            Ok(None)
+        } else {
+            Ok(Some(String::from_str(alloc, uri)?))
+        }
     }
 
-    /// What stands at a position of an open document, in the form that the editor likes.
+    /// The reply with the outline of an open document, in the form that the editor knows.
+    fn outline(&self, alloc: Global, id: Id, uri: &str, doc: &Doc) -> Result<Sent, AllocError>
+        requires { IsCurrent (language_of self.now.known.now.core) doc.now }
+        ensures { let document = open_document doc.now in
+            IfOk result (λ message.
+            IsOutline (replying_state self.now) (id_view id) uri.now document
+            (message_view message)) }
+    {
+        let (language, settings) = (self.language(), &self.known.shown.settings);
+        let list_of = self.list_of(alloc, uri)?;
+        let symbols = outline(alloc, language, settings, doc, self.known.kept(doc))?;
+        Ok(Sent::Outline {
+            id,
+            list_of,
+            symbols,
+        })
+    }
+
+    /// The reply with the text about what stands at a position of an open document, in the form
+    /// that the editor likes.
     fn hover(
         &self,
         alloc: Global,
-        uri: &str,
+        id: Id,
         doc: &Doc,
         position: Position,
-    ) -> Result<Value, AllocError>
+    ) -> Result<Sent, AllocError>
         requires { IsCurrent (language_of self.now.known.now.core) doc.now }
+        ensures { let document = open_document doc.now in
+            IfOk result (λ message.
+            IsHover (id_view id) document position (message_view message)) }
     {
-        let markup = if self.known.client.markdown {
+        let form = if self.known.client.markdown {
             Markup::Markdown
         } else {
             Markup::Plain
         };
         let (language, settings) = (self.language(), &self.known.shown.settings);
         let copy = self.known.kept(doc);
-        let found = hover(alloc, language, settings, doc, copy, position, markup)?;
-        hover_value(alloc, &found, markup)
+        let found = hover(alloc, language, settings, doc, copy, position, form)?;
+        Ok(Sent::Hover { id, found, form })
     }
 
-    /// The brackets of a node of an open document, one of which is at a position.
+    /// The reply with the brackets of a node of an open document, one of which is at a position.
     fn brackets(
         &self,
         alloc: Global,
-        uri: &str,
+        id: Id,
         doc: &Doc,
         position: Position,
-    ) -> Result<Value, AllocError> {
-        let found = brackets(alloc, self.language(), doc, self.known.kept(doc), position)?;
-        brackets_value(alloc, &found)
+    ) -> Result<Sent, AllocError>
+        ensures { let document = open_document doc.now in
+            IfOk result (λ message.
+            AreBracketsAt (id_view id) document position (message_view message)) }
+    {
+        let pair = brackets(alloc, self.language(), doc, self.known.kept(doc), position)?;
+        Ok(Sent::Brackets { id, pair })
     }
 
     /// What mends the faults at a range of an open document.
@@ -324,18 +352,9 @@ impl<'a> Replying<'a> {
                 numbers: lines(alloc, palette, doc, *first, *end)?,
             },
             Question::Offers(position) => self.offers(alloc, id, uri, doc, *position)?,
-            Question::Outline => Sent::Result {
-                id,
-                value: self.outline(alloc, uri, doc)?,
-            },
-            Question::Hover(position) => Sent::Result {
-                id,
-                value: self.hover(alloc, uri, doc, *position)?,
-            },
-            Question::Brackets(position) => Sent::Result {
-                id,
-                value: self.brackets(alloc, uri, doc, *position)?,
-            },
+            Question::Outline => self.outline(alloc, id, uri, doc)?,
+            Question::Hover(position) => self.hover(alloc, id, doc, *position)?,
+            Question::Brackets(position) => self.brackets(alloc, id, doc, *position)?,
             Question::Fixes(range) => Sent::Result {
                 id,
                 value: self.fixes(alloc, uri, doc, *range)?,

@@ -31,7 +31,7 @@ fault = refl
 
 -- an editor of a language that begins comments by `#`
 shown : ShownData
-shown = record { name = 103 ∷ []; comment = 35 ∷ []; types = (107 ∷ []) ∷ []; palette = Some 0 ∷ []; texts = [] }
+shown = record { name = 103 ∷ []; comment = 35 ∷ []; types = (107 ∷ []) ∷ []; palette = Some 0 ∷ []; texts = []; kinds = [] }
 
 -- what the core can do is sent with the name, the comment and the types that are shown, and with no others
 capable : IsShown shown (capabilities_reply (numbered (pos 0)) Utf16) (capabilities (numbered (pos 0)) Utf16 (103 ∷ []) (35 ∷ []) ((107 ∷ []) ∷ []))

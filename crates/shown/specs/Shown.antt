@@ -12,13 +12,15 @@ use Rattle.replies.specs.Replies.{Answer, capabilities_reply, folds_reply, log_m
 use Rattle.replies.specs.declared.reply.Log.TheVariants.{Lost, TooManyDocuments}
 
 -- what an editor is shown of a language besides its texts: the name of the server, what begins a comment, the types of tokens by their
--- numbers, the palette, which has the colour of each rule, where it has one, and the text of each rule that is offered
+-- numbers, the palette, which has the colour of each rule, where it has one, the text of each rule that is offered, and the kinds of
+-- symbols
 pub record ShownData : Type 0 where
   pub name : List ℕ
   pub comment : List ℕ
   pub types : List (List ℕ)
   pub palette : List (Option ℕ)
   pub texts : List (Option RuleText)
+  pub kinds : List ℕ
 
 -- `shown_fault uri version range words related behind`: a fault of the core at its place, with these words, and the diagnostics behind it
 abbrev pub shown_fault : List ℕ → Option ℤ → Range → List ℕ → Option (List ℕ) → List Data → WordedFault
@@ -78,6 +80,7 @@ shown_data s = record {
   types = map (λ text. text.now) s.types.now;
   palette = s.settings.colours.items;
   texts = s.texts.items;
+  kinds = map (λ rule. rule.kind) s.settings.symbols.items;
 }
 
 -- what is told of an answer in the code, as the messages that it is

@@ -3,7 +3,7 @@ use Rattle.std.specs.Prelude.{OnOk, ⊤, option_map}
 use Rattle.serde.specs.Event.{Log}
 use Rattle.serde_json.specs.Events.{SendsValue}
 use Rattle.replies.specs.Ids.{id_view}
-use Rattle.editor_replies.specs.Sent.{capabilities, change_view, changes, colours, message_view, offer_view, offers}
+use Rattle.editor_replies.specs.Sent.{capabilities, change_view, changes, colours, message_view, offer_view, offers, outline, symbol_view}
 use Rattle.editor_replies.specs.Sending.{message_data}
 use Rattle.editor_replies.specs.declared.sent.Sent.{Sent}
 use Rattle.editor_replies.proofs.sending.send_message.Goals as goal
@@ -63,3 +63,27 @@ returns-in-Offers g c =
     let at_found = subst (λ found. OnOk result (SendsValue (message_data (offers (id_view it.id) it.range (map offer_view found))) old new))
     c.deref-in-Offers.ensures.value c.send_result-in-Offers.ensures in
     sent_of result old new c.args.message.now _ it.is at_found
+
+pub returns-in-Outline : goal.returns-in-Outline
+returns-in-Outline g c =
+    let w = g.S.Serializer.written in
+    let old = w c.args.out.now in
+    let new = w c.send_result-in-Outline.new.out in
+    let it = c.in-Outline in
+    let result = c.send_result-in-Outline.result in
+    let at_uri = subst (λ uri. OnOk result (SendsValue (message_data (outline (id_view it.id) uri (map symbol_view c.deref-in-Outline.result.now))) old new))
+    c.lent-in-Outline.ensures c.send_result-in-Outline.ensures in
+    let at_symbols = subst (λ symbols. OnOk result (SendsValue (message_data (outline (id_view it.id) (option_map (λ text. string_bytes text) it.list_of) (map symbol_view symbols))) old new))
+    c.deref-in-Outline.ensures.value at_uri in
+    sent_of result old new c.args.message.now _ it.is at_symbols
+
+pub returns-in-Hover : goal.returns-in-Hover
+returns-in-Hover g c =
+    let w = g.S.Serializer.written in
+    sent_of c.send_result-in-Hover.result (w c.args.out.now) (w c.send_result-in-Hover.new.out) c.args.message.now _ c.in-Hover.is c.send_result-in-Hover.ensures
+
+pub returns-in-Brackets : goal.returns-in-Brackets
+returns-in-Brackets g c =
+    let w = g.S.Serializer.written in
+    sent_of c.send_result-in-Brackets.result (w c.args.out.now) (w c.send_result-in-Brackets.new.out) c.args.message.now _ c.in-Brackets.is
+    c.send_result-in-Brackets.ensures
