@@ -8,7 +8,9 @@
 `rt all test` takes the crates in the order of crates.txt, each by one processor, also where the
 others wait for it. `rt ci` begins with those that have the longest chain of others behind them, and
 gives a crate the processors that no other one waits for: here the crates go in its order, and what
-is proved is kept where it stands. Nor is there a look at all sources before the proofs: it tells of
+is proved is kept where it stands. The sum of a crate's sources, by which `rt` finds what is kept,
+is made of the sums of the crates that it stands on, each of which is asked for once and not once
+for each way down to it: for the upper crates that took minutes. Nor is there a look at all sources before the proofs: it tells of
 mistakes sooner, and takes minutes in which no crate is proved. Whoever proves a commit that was
 landed has no use for it. A kit of which these parts aren't known runs as it is. """
 
@@ -19,6 +21,7 @@ import importlib.util
 import os
 import sys
 import tempfile
+import threading
 from typing import Any, Callable, Dict, List, Tuple
 
 # A crate's part of the work; what it waits for, its lines, its memory, and what does it.
@@ -28,7 +31,7 @@ Task = Tuple[List[Key], int, int, Callable[[Dict[Key, bool], int], bool]]
 # What is asked of the kit: of `rt`, of `rtlib`, and of a crate.
 OF_RT = ("in_lanes",)
 OF_LIBRARY = ("Crate", "crates_below", "every", "lock")
-OF_CRATE = ("below", "build_rlib", "count", "makes_rlib", "test_whole")
+OF_CRATE = ("below", "build_rlib", "count", "makes_rlib", "stamp", "test_whole")
 
 
 def load(path: str) -> Any:
@@ -50,6 +53,26 @@ def is_known(rt: Any) -> bool:
         and all(hasattr(library, name) for name in OF_LIBRARY)
         and all(hasattr(crate, name) for name in OF_CRATE)
     )
+
+
+def asked_once(method: Callable[[Any], Any]) -> Callable[[Any], Any]:
+    """A method of a crate that asks those below: the same, where within one call each is asked at
+    most once."""
+    calls = threading.local()
+
+    def answer(crate: Any) -> Any:
+        known = getattr(calls, "known", None)
+        if known is None:
+            calls.known = {}
+            try:
+                return method(crate)
+            finally:
+                calls.known = None
+        if crate.folder not in known:
+            known[crate.folder] = method(crate)
+        return known[crate.folder]
+
+    return answer
 
 
 def key(crate: Any) -> Key:
@@ -82,9 +105,10 @@ def task(crate: Any, room: int) -> Task:
 def every_crate(rt: Any, room: int) -> int:
     """Proves the crates at and below this folder. The status: 1 where one isn't proved."""
     crates = rt.rtlib.crates_below(os.getcwd())
-    # It is held as long as this runs.
-    _held = rt.rtlib.lock(crates)
+    locks = rt.rtlib.lock(crates)
     given = rt.in_lanes({key(crate): task(crate, room) for crate in crates})
+    for lock in locks:
+        os.close(lock)
     return 0 if all(given.values()) else 1
 
 
@@ -92,11 +116,12 @@ def main() -> int:
     """Proves the crates. The status."""
     sys.dont_write_bytecode = True
     rt, lanes, room = load(sys.argv[1]), sys.argv[2], int(sys.argv[3])
-    library = getattr(rt, "rtlib", None)
+    library: Any = getattr(rt, "rtlib", None)
     if is_known(rt):
-        setattr(library, "every", lambda verb, at_once: every_crate(rt, room))
+        library.Crate.stamp = asked_once(library.Crate.stamp)
+        library.every = lambda verb, at_once: every_crate(rt, room)
     elif hasattr(getattr(library, "Crate", None), "front_end"):
-        setattr(getattr(library, "Crate"), "front_end", lambda self: 0)
+        library.Crate.front_end = lambda self: 0
     status: int = rt.main(["all", "test", "--jobs", lanes])
     return status
 

@@ -40,7 +40,8 @@ UNMARKED = "lrls: lrls was built in a way that was not noted, and not proved\n"
 QUICK = ("quick, ran check x\n", "", 7)
 
 # A kit's `rt` that runs as it is, and one that has the parts by which crates go in the order of
-# `rt ci`: of its three crates the second one may fail, and the third stands on both others.
+# `rt ci`: of its three crates each stands on those before it, and the second one may fail. With each
+# it says how many crates were asked for their sum.
 PLAIN_KIT = """
 def main(words):
     print(*words)
@@ -62,16 +63,24 @@ class Crate:
     def makes_rlib(self):
         return True
 
+    def stamp(self):
+        asked.append(self.name)
+        return self.name + "".join(crate.stamp() for crate in self.low)
+
     def build_rlib(self, flags, anew):
-        print(self.name, *flags, file=self.out)
+        asked.clear()
+        self.stamp()
+        print(self.name, *flags, len(asked), file=self.out)
         return self.status
 
     def test_whole(self, flags):
         return 0
 
-low, mid = Crate("low", 0, []), Crate("mid", STATUS, [])
+asked = []
+low = Crate("low", 0, [])
+mid = Crate("mid", STATUS, [low])
 crates = [low, mid, Crate("high", 0, [low, mid])]
-rtlib = types.SimpleNamespace(Crate=Crate, crates_below=lambda top: crates, lock=len, every=None)
+rtlib = types.SimpleNamespace(Crate=Crate, crates_below=lambda top: crates, lock=lambda all: [], every=None)
 
 def in_lanes(tasks):
     given = {}
@@ -450,13 +459,13 @@ def proves(cases: Cases, checkout: "Checkout") -> None:
 
 def orders(cases: Cases, checkout: "Checkout") -> None:
     """The crates are proved by a part of the script that the kit's `rt` is handed to."""
-    first = "all test --jobs 5\n== low\nlow --jobs 7\n== mid\nmid --jobs 7\n"
+    first = "all test --jobs 5\n== low\nlow --jobs 7 1\n== mid\nmid --jobs 7 2\n"
     for name, kit, awaited in [
         ("a kit of unknown parts", PLAIN_KIT, ("all test --jobs 5\n", 3)),
         (
             "each is proved",
             ORDERING_KIT.replace("STATUS", "0"),
-            (f"{first}== high\nhigh --jobs 7\n", 0),
+            (f"{first}== high\nhigh --jobs 7 3\n", 0),
         ),
         ("one isn't proved", ORDERING_KIT.replace("STATUS", "1"), (f"{first}mid: failed (1)\n", 1)),
     ]:
