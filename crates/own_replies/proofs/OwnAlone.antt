@@ -1,5 +1,5 @@
 -- Nothing of a reply to a request that the core doesn't know is the core's.
-use Rattle.std.proofs.Common.{◌≡◌, ◌⊎◌, ℕ, List, [], ap, inl, inr, Option, Some, None}
+use Rattle.std.proofs.Common.{◌≡◌, ℕ, List, [], ap, inl, inr, Option, Some, None}
 use Rattle.std.specs.FinMap.{get}
 use Rattle.readings.specs.Texts.{OpenDocument}
 use Rattle.replies.specs.Ids.{Ident}
