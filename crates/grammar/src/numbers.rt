@@ -6,7 +6,7 @@ ghost use Rattle.std.specs.List.{cons_option};
 ghost use Rattle.grammar_file.specs.Contents.{number_of, as_production, productions, starts};
 ghost use Rattle.grammar.specs.Contents.{symbol_of, production_of, first_of, folds_name, is_fold};
 ghost use Rattle.grammar_line.specs.Kept.{line_view, texts};
-ghost use Rattle.grammar_file.specs.Kept.{lines_view};
+ghost use Rattle.grammar_file.specs.Kept.{lines_view, HasMeanings};
 
 use crate::grammar::Name;
 use definitions::Symbol;
@@ -14,19 +14,8 @@ use grammar_file::{Line, Names, Numbered};
 use productions::Production;
 use std::alloc::{AllocError, Global};
 
-/// The symbol of a name.
-fn symbol_of(name: &str, names: &Names<'_>) -> Symbol
-    ensures { result
-        ≡ symbol_of names.now.nonterminals (map (λ r. r.name) names.now.rules) name.now }
-{
-    if names.nonterminals.contains(name) {
-        Symbol::Nonterminal(names.nonterminals.number(name))
-    } else {
-        Symbol::Rule(names.rules.number(name))
-    }
-}
-
 fn symbols_of(alloc: Global, right: &[&str], names: &Names<'_>) -> Result<Vec<Symbol>, AllocError>
+    requires { HasMeanings names.now }
     ensures { IfOk result (λ symbols.
         symbols.items
         ≡ map (symbol_of names.now.nonterminals (map (λ r. r.name) names.now.rules))
@@ -34,7 +23,7 @@ fn symbols_of(alloc: Global, right: &[&str], names: &Names<'_>) -> Result<Vec<Sy
 {
     let mut symbols = Vec::with_capacity(alloc, right.len())?;
     for name in right {
-        symbols.push(symbol_of(name, names))?;
+        symbols.push(names.symbol(name))?;
     }
     Ok(symbols)
 }
@@ -45,6 +34,7 @@ fn production_of(
     line: &Line<'_>,
     names: &Names<'_>,
 ) -> Result<Option<Production>, AllocError>
+    requires { HasMeanings names.now }
     ensures { IfOk result (λ p.
         p
         ≡ option_map (production_of names.now.nonterminals (map (λ r. r.name) names.now.rules))
@@ -65,6 +55,7 @@ pub fn productions(
     statements: &[Numbered<'_>],
     names: &Names<'_>,
 ) -> Result<Vec<Production>, AllocError>
+    requires { HasMeanings names.now }
     ensures { IfOk result (λ found.
         found.items
         ≡ map (production_of names.now.nonterminals (map (λ r. r.name) names.now.rules))

@@ -2,6 +2,7 @@ pub mod Common
 pub mod Std
 pub mod TestedItems
 pub mod NameLookUps
+pub mod NameMeanings
 pub mod Sets
 pub mod OneMoreItem
 pub mod Lines

@@ -1,12 +1,12 @@
 -- What one more line makes of the contents.
-use Rattle.grammar_file.proofs.Std.{◌≡◌, ℕ, ◌≤◌, Bool, true, false, List, [], ◌∷◌, ◌++◌, refl, ap, ◌∙◌, sym, length, subst, inr, take, Option, Some, None, map, filter, nat_lt, slice_get, ◌+◌, ◌*◌, fold, cons_option, flat_map, list_any, chars}
+use Rattle.grammar_file.proofs.Std.{◌≡◌, ℕ, ◌≤◌, Bool, true, false, List, [], ◌∷◌, ◌++◌, refl, ap, ◌∙◌, sym, length, subst, inr, take, Option, Some, None, map, filter, nat_lt, slice_get, ◌+◌, ◌*◌, fold, cons_option, flat_map, chars}
 use Rattle.grammar_file.proofs.Std.{arith, length-append, append_assoc, append-nil, common_steps, flat_map-append, map-append, take-append-le, fold-append, slice_get_within, filter-append, filter_map-append}
-use Rattle.grammar_file.proofs.Common.{File, Names, with_marked, marked, Cause, is_skip_rule, HasPattern, early_fault, line_limit, limit_fault, late_fault, nonterminal_count, production_count, exceeded_limit, cause_if, or_else, IsFaultless, AreFaultless, IsLineFault}
-use Rattle.grammar_file.proofs.Common.{are_among, with_rule, with_skip, with_left, with_right, with_sides, with_production, with_start, AreNames, ArePatterns, IsPatternOf, with_pattern, AreFew, IsRead, lines_view}
+use Rattle.grammar_file.proofs.Common.{File, Names, with_marked, marked, Cause, HasPattern, early_fault, line_limit, limit_fault, late_fault, nonterminal_count, production_count, exceeded_limit, cause_if, or_else, IsFaultless, AreFaultless, IsLineFault}
+use Rattle.grammar_file.proofs.Common.{are_among, HasMeanings, with_rule, with_left, with_right, with_sides, with_production, with_start, AreNames, ArePatterns, IsPatternOf, with_pattern, AreFew, IsRead, lines_view}
 use Rattle.grammar_file.proofs.Common.{Line, Nothing, Production, Rule, Start, Fold, Bad, Statement, at, Word, is_marked}
 use Rattle.grammar_file.proofs.Common.{IsPattern, Expression, Symbol}
 use Rattle.grammar_file.proofs.OneMoreItem.{push_at, take-all, cons_option-append}
-use Rattle.grammar_file.proofs.Sets.{skips-step, sides-step}
+use Rattle.grammar_file.proofs.Sets.{sides-step}
 use Rattle.grammar_file.specs.Contents as of
 
 pub has_pattern : (l : Line) (p : Option Expression) → IsPatternOf l p → HasPattern l
@@ -97,11 +97,12 @@ start-step ss n (Fold name) = starts_with_none ss n (Fold name) refl
 start-step ss n Bad = starts_with_none ss n Bad refl
 
 pub names-step : (names names' : Names) (ss : List Statement) (n : ℕ) (l : Line) → AreNames names ss → names'.rules ≡ with_rule names.rules l
-    → names'.skips ≡ with_skip names.skips l → names'.nonterminals ≡ with_left names.nonterminals l → names'.marked ≡ with_right names.marked l
-    → names'.sides ≡ with_sides names.sides l → names'.productions ≡ with_production names.productions l → names'.started ≡ with_start names.started l → AreNames names' (ss ++ at n l ∷ [])
-names-step names names' ss n l are rs ks ns ms bs ps st = record {
+    → names'.nonterminals ≡ with_left names.nonterminals l → names'.marked ≡ with_right names.marked l
+    → names'.sides ≡ with_sides names.sides l → names'.productions ≡ with_production names.productions l → names'.started ≡ with_start names.started l
+    → (HasMeanings names → HasMeanings names') → AreNames names' (ss ++ at n l ∷ [])
+names-step names names' ss n l are rs ns ms bs ps st mean = record {
   rules = rs ∙ ap (λ x. with_rule x l) are.rules ∙ sym (rules-step ss n l);
-  skips = λ w. ap (of.is_among w) ks ∙ skips-step names.skips (of.rules ss) l are.skips w ∙ ap (list_any (is_skip_rule w)) (sym (rules-step ss n l));
+  meanings = mean are.meanings;
   nonterminals = ns ∙ ap (λ x. with_left x l) are.nonterminals ∙ sym (nonterminals-step ss n l);
   marked = ms ∙ ap (λ x. with_right x l) are.marked ∙ sym (marked-step ss n l);
   sides = λ left right. ap (are_among (left ∷ right)) bs ∙ sides-step names.sides ss n l are.sides left right;

@@ -1,6 +1,6 @@
 -- Names that are found by their texts.
 use Rattle.grammar_file.proofs.Std.{◌≡◌, ◌+◌, ◌<◌, ◌≤◌, [], ◌∷◌, ◌++◌, ◌∙◌, ◌||◌}
-use Rattle.grammar_file.proofs.Std.{ℕ, suc, Bool, true, false, cond, nat_lt, not, List, length, position, Option, None, Some, is_some, Bor, refl, sym, ap, if◌then◌else◌, unwrap_or, list_any, position_or_len, bytes_eq, bytes_decides, nat_list_eq_equiv, lookup}
+use Rattle.grammar_file.proofs.Std.{ℕ, suc, Bool, true, false, cond, nat_lt, not, List, length, position, Option, None, Some, is_some, Bor, refl, sym, ap, if◌then◌else◌, option_or, unwrap_or, list_any, position_or_len, bytes_eq, bytes_decides, nat_list_eq_equiv, lookup}
 use Rattle.grammar_file.proofs.Std.{true≢false, arith, lt-ltb, le-ltb, length_push, map-append, position_or_len_push, prefix_len-le-length, ltb-true, ltb-false, eq-eqb, ne_eqb, eqb}
 use Rattle.grammar_file.proofs.Common.{Word, is_among, number_of, with_name, texts, AreNumbers}
 use Rattle.grammar_file.proofs.Splits.{length-texts}
@@ -8,18 +8,17 @@ use Rattle.grammar_file.proofs.Splits.{length-texts}
 pub turned : (a b : Word) → bytes_eq a b ≡ bytes_eq b a
 turned a b = nat_list_eq_equiv.symm a b
 
--- the first answer, or the second where there is none
-abbrev two : Option ℕ → Option ℕ → Option ℕ
-two None r = r
-two (Some n) r = Some n
+pub or_nothing : (o : Option ℕ) → option_or o None ≡ o
+or_nothing None = refl
+or_nothing (Some n) = refl
 
-two-cond : (b : Bool) (n : ℕ) (l r : Option ℕ) → cond b (Some n) (two l r) ≡ two (cond b (Some n) l) r
-two-cond true n l r = refl
-two-cond false n l r = refl
+or-cond : (b : Bool) (n : ℕ) (l r : Option ℕ) → cond b (Some n) (option_or l r) ≡ option_or (cond b (Some n) l) r
+or-cond true n l r = refl
+or-cond false n l r = refl
 
-lookup-push : {K : Type 0} (t : K → Bool) (es : List (K × ℕ)) (k : K) (n : ℕ) → lookup t (es ++ (k, n) ∷ []) ≡ two (lookup t es) (cond (t k) (Some n) None)
+lookup-push : {K : Type 0} (t : K → Bool) (es : List (K × ℕ)) (k : K) (n : ℕ) → lookup t (es ++ (k, n) ∷ []) ≡ option_or (lookup t es) (cond (t k) (Some n) None)
 lookup-push t [] k n = refl
-lookup-push t (e ∷ es) k n = ap (λ r. cond (t e.0) (Some e.1) r) (lookup-push t es k n) ∙ two-cond (t e.0) e.1 (lookup t es) (cond (t k) (Some n) None)
+lookup-push t (e ∷ es) k n = ap (λ r. cond (t e.0) (Some e.1) r) (lookup-push t es k n) ∙ or-cond (t e.0) e.1 (lookup t es) (cond (t k) (Some n) None)
 
 some_at : (n m : ℕ) → n < m → cond (nat_lt n m) (Some n) None ≡ Some n
 some_at n m h = ap (λ b. cond b (Some n) None) (lt-ltb n m h)
@@ -51,7 +50,7 @@ module _ {X : Type 0} (p : X → Bool) where
   pub is_some-position : (xs : List X) → is_some (position p xs) ≡ list_any p xs
   is_some-position xs = is_some-cond (nat_lt (position_or_len p xs) (length xs)) (position_or_len p xs) ∙ found-any xs
 
-  position-push : (xs : List X) (y : X) → position p (xs ++ y ∷ []) ≡ two (position p xs) (cond (p y) (Some (length xs)) None)
+  pub position-push : (xs : List X) (y : X) → position p (xs ++ y ∷ []) ≡ option_or (position p xs) (cond (p y) (Some (length xs)) None)
   position-push xs y = go (nat_lt (position_or_len p xs) (length xs)) refl (p y) refl
     where
       n : ℕ
@@ -72,25 +71,25 @@ module _ {X : Type 0} (p : X → Bool) where
       end : nat_lt n m ≡ false → n ≡ m
       end e = let past : m ≤ n = ltb-false n m e in let most = prefix_len-le-length (λ x. not (p x)) xs in omega (arith, past, most)
 
-      go : (b : Bool) → nat_lt n m ≡ b → (c : Bool) → p y ≡ c → position p (xs ++ y ∷ []) ≡ two (cond (nat_lt n m) (Some n) None) (cond (p y) (Some m) None)
+      go : (b : Bool) → nat_lt n m ≡ b → (c : Bool) → p y ≡ c → position p (xs ++ y ∷ []) ≡ option_or (cond (nat_lt n m) (Some n) None) (cond (p y) (Some m) None)
       go true e c f =
           let within : n < m = ltb-true n m e in
           placed n (here false (ne_eqb n m (λ q. absurd (omega (arith, within, q))))) ∙ some_at n (m + 1) (omega (arith, within))
-          ∙ sym (ap (λ b. two (cond b (Some n) None) (cond (p y) (Some m) None)) e)
+          ∙ sym (ap (λ b. option_or (cond b (Some n) None) (cond (p y) (Some m) None)) e)
       go false e true f =
           let at : n ≡ m = end e in
           placed m (here true (eq-eqb n m at) ∙ ap (λ c. m + cond c 0 1) f ∙ omega arith) ∙ some_at m (m + 1) (omega arith)
-          ∙ sym (λ i. two (cond (e i) (Some n) None) (cond (f i) (Some m) None))
+          ∙ sym (λ i. option_or (cond (e i) (Some n) None) (cond (f i) (Some m) None))
       go false e false f =
           let at : n ≡ m = end e in
           placed (m + 1) (here true (eq-eqb n m at) ∙ ap (λ c. m + cond c 0 1) f) ∙ none_at (m + 1) (m + 1) (omega arith)
-          ∙ sym (λ i. two (cond (e i) (Some n) None) (cond (f i) (Some m) None))
+          ∙ sym (λ i. option_or (cond (e i) (Some n) None) (cond (f i) (Some m) None))
 
 -- the number of a name that has none yet
 pub numbers-new : (names : List Word) (es : List (Bor (List ℕ) × ℕ)) (k : Bor (List ℕ)) (n : ℕ) → length names ≡ n → AreNumbers names es → AreNumbers (names ++ k.now ∷ []) (es ++ (k, n) ∷ [])
 numbers-new names es k n long are w =
     lookup-push (λ k. bytes_eq w k.now) es k n
-    ∙ (λ i. two (are w i) (cond (turned w k.now i) (Some (sym long i)) None))
+    ∙ (λ i. option_or (are w i) (cond (turned w k.now i) (Some (sym long i)) None))
     ∙ sym (position-push (λ v. bytes_eq v w) names k.now)
 
 -- a name that has one keeps it
@@ -98,17 +97,13 @@ pub numbers-again : (names : List Word) (es : List (Bor (List ℕ) × ℕ)) (k :
     → AreNumbers names es → AreNumbers (names ++ k.now ∷ []) es
 numbers-again names es k there are w = are w ∙ sym (position-push (λ v. bytes_eq v w) names k.now ∙ go (bytes_eq k.now w) refl)
   where
-    keeps : (o r : Option ℕ) → is_some o ≡ true → two o r ≡ o
+    keeps : (o r : Option ℕ) → is_some o ≡ true → option_or o r ≡ o
     keeps None r h = absurd (true≢false (sym h))
     keeps (Some n) r h = refl
 
-    drops : (o : Option ℕ) → two o None ≡ o
-    drops None = refl
-    drops (Some n) = refl
-
-    go : (b : Bool) → bytes_eq k.now w ≡ b → two (position (λ v. bytes_eq v w) names) (cond (bytes_eq k.now w) (Some (length names)) None) ≡ position (λ v. bytes_eq v w) names
+    go : (b : Bool) → bytes_eq k.now w ≡ b → option_or (position (λ v. bytes_eq v w) names) (cond (bytes_eq k.now w) (Some (length names)) None) ≡ position (λ v. bytes_eq v w) names
     go true e = keeps _ _ (ap is_some (sym (are w)) ∙ ap (λ x. is_some (lookup (λ y. bytes_eq x y.now) es)) (sym ((bytes_decides k.now w).0 e)) ∙ there)
-    go false e = ap (λ b. two (position (λ v. bytes_eq v w) names) (cond b (Some (length names)) None)) e ∙ drops (position (λ v. bytes_eq v w) names)
+    go false e = ap (λ b. option_or (position (λ v. bytes_eq v w) names) (cond b (Some (length names)) None)) e ∙ or_nothing (position (λ v. bytes_eq v w) names)
 
 -- a set of names is searched by the other order of the texts
 pub among-keys : (w : Word) (ks : List (Bor (List ℕ))) → list_any (λ k. bytes_eq w k.now) ks ≡ is_among w (texts ks)

@@ -1,10 +1,10 @@
 -- Sets that are lists, each of whose items is there once.
 use Rattle.grammar_file.proofs.Std.{◌≡◌, ℕ, Bool, true, false, List, [], ◌∷◌, ◌++◌, refl, ap, sym, ◌∙◌, ◌||◌, ◌&&◌, if◌then◌else◌, map, Bor, list_any, bytes_eq, pointwise, bytes_decides, list_any-append, map-append, and_parts, or-true}
-use Rattle.grammar_file.proofs.Common.{Word, RuleLine, is_among, is_production, is_skip_rule, has_production, texts, are_among, with_names, with_rule, with_skip, with_sides, Line, Production, Rule, Statement, at}
+use Rattle.grammar_file.proofs.Common.{Word, is_production, has_production, texts, are_among, with_names, with_sides, Line, Production, Statement, at}
 use Rattle.grammar_file.proofs.NameLookUps.{turned}
 use Rattle.grammar_file.proofs.TestedItems.{pointwise-map}
 
-or-none : (a : Bool) → (a || false) ≡ a
+pub or-none : (a : Bool) → (a || false) ≡ a
 or-none true = refl
 or-none false = refl
 
@@ -29,16 +29,6 @@ turned_words [] [] = refl
 turned_words [] (w ∷ ws) = refl
 turned_words (v ∷ vs) [] = refl
 turned_words (v ∷ vs) (w ∷ ws) = λ i. turned v w i && turned_words vs ws i
-
-pub skips-step : (names : List Word) (rs : List RuleLine) (l : Line) → ((w : Word) → is_among w names ≡ list_any (is_skip_rule w) rs)
-    → (w : Word) → is_among w (with_skip names l) ≡ list_any (is_skip_rule w) (with_rule rs l)
-skips-step names rs (Rule true name pattern) are w =
-    any-with bytes_eq (λ x y. (bytes_decides x y).0) names name w
-    ∙ (λ i. are w i || sym (or-none (bytes_eq name w)) i)
-    ∙ sym (list_any-append (is_skip_rule w) rs (record { skip = true; name = name; pattern = pattern } ∷ []))
-skips-step names rs (Rule false name pattern) are w =
-    are w ∙ sym (list_any-append (is_skip_rule w) rs (record { skip = false; name = name; pattern = pattern } ∷ []) ∙ or-none (list_any (is_skip_rule w) rs))
-skips-step names rs d are w = are w
 
 -- what one line adds to the productions that there are
 one_more : (all : List (List Word)) (l : Line) (left : Word) (right : List Word) → are_among (left ∷ right) (with_sides all l) ≡ (are_among (left ∷ right) all || is_production left right l)

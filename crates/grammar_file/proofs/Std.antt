@@ -6,6 +6,7 @@ pub use Rattle.std.specs.Prelude.{cond, not, position}
 pub use Rattle.std.specs.Cmp.Lexicographic.{bytes_decides, nat_list_eq_equiv, pointwise}
 pub use Rattle.std.specs.List.{cons_option, enumerate_from, filter_map, flat_map, fold, list_any, position_or_len, prefix_len}
 pub use Rattle.std.specs.Map.{lookup}
+pub use Rattle.std.specs.Option.{option_or}
 pub use Rattle.std.specs.Result.{result_and}
 pub use Rattle.std.specs.Str.{bytes_eq, chars}
 pub use Rattle.std.specs.Str.Lines.{lines}
@@ -19,6 +20,7 @@ pub use Rattle.std.proofs.lemmas.List.{flat_map_more, length-map, length-take-le
 pub use Rattle.std.proofs.lemmas.List.Elements.{filter-append, filter_map-append}
 pub use Rattle.std.proofs.lemmas.List.Folds.{list_any-append, position_or_len_push}
 pub use Rattle.std.proofs.lemmas.List.Sums.{fold-append, prefix_len-le-length}
+pub use Rattle.std.proofs.lemmas.Map.Text.{hash_map_updates_str}
 pub use Rattle.std.proofs.lemmas.Option.{IfSome_then, slice_get_within}
 pub use Rattle.std.proofs.lemmas.Result.{MatchResult-weaker, err_from_is_err_and, on_ok_weaker}
 pub use Rattle.indexmap.proofs.CallerLemmas.{insert_entry-new}

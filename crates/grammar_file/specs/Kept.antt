@@ -1,7 +1,6 @@
 -- What the code keeps of the lines, in the words of the definitions.
 use Rattle.std.specs.Prelude.{◌≡◌, ℕ, ◌+◌, ◌≤◌, Bool, true, if◌then◌else◌, nat_lt, Option, Some, None, slice_get, IsSomeAnd, List, []}
 use Rattle.std.specs.Prelude.{◌∷◌, ◌++◌, length, map}
-use Rattle.std.specs.Borrow.{Bor}
 use Rattle.std.specs.Str.{bytes_eq, chars}
 use Rattle.std.specs.List.{list_any}
 use Rattle.std.specs.Cmp.Lexicographic.{pointwise}
@@ -11,12 +10,13 @@ use Rattle.grammar_file.specs.declared.rules.RuleName.{RuleName}
 use Rattle.grammar_file.specs.declared.names.Names.{Names}
 use Rattle.grammar_file.specs.declared.statements.Numbered.{Numbered}
 use Rattle.grammar_file.specs.declared.statements.File.{File}
-use Rattle.grammar_line.specs.Kept.{texts, line_view}
+use Rattle.grammar_line.specs.Kept.{line_view}
 use Rattle.grammar_line.specs.Words.{Word}
-use Rattle.grammar_line.specs.Statements.{Line, Nothing, Production, Rule, Start, Fold, Bad, Statement}
-use Rattle.grammar_file.specs.Contents.{RuleLine, ProductionLine, rules, productions, starts, nonterminals, is_among, with_name, defined}
+use Rattle.grammar_line.specs.Statements.{Line, Production, Rule, Start, Statement}
+use Rattle.grammar_file.specs.Contents.{RuleLine, ProductionLine, rules, productions, starts, nonterminals, with_name, defined}
+use Rattle.grammar_file.specs.Meanings.{AreMeanings}
 use Rattle.grammar_file.specs.WrittenOut.{with_marked, marked, written_out}
-use Rattle.grammar_file.specs.Faults.{AreFaultless, is_skip_rule, has_production, nonterminal_count, production_count}
+use Rattle.grammar_file.specs.Faults.{AreFaultless, has_production, nonterminal_count, production_count}
 
 abbrev pub statement_of : Numbered → Statement
 statement_of n = record { number = n.number; says = line_view n.line }
@@ -37,9 +37,13 @@ are_among ws all = list_any (λ vs. pointwise bytes_eq vs ws) all
 abbrev pub with_names : List (List Word) → List Word → List (List Word)
 with_names all ws = if are_among ws all then all else all ++ ws ∷ []
 
+-- what each name means by the nonterminals and rules that the code keeps is found by the name
+abbrev pub HasMeanings : Names → Type 0
+HasMeanings names = AreMeanings names.nonterminals names.rules names.meanings.by_name.entries
+
 -- the names that the code keeps are those that the statements define
 pub record AreNames (names : Names) (ss : List Statement) : Type 0 where
-  pub skips : (w : Word) → is_among w names.skips ≡ list_any (is_skip_rule w) (rules ss)
+  pub meanings : HasMeanings names
   pub rules : names.rules ≡ rules ss
   pub nonterminals : names.nonterminals ≡ nonterminals ss
   pub marked : names.marked ≡ marked ss
@@ -51,10 +55,6 @@ pub record AreNames (names : Names) (ss : List Statement) : Type 0 where
 abbrev pub with_rule : List RuleLine → Line → List RuleLine
 with_rule rules (Rule skip name pattern) = rules ++ record { skip = skip; name = name; pattern = pattern } ∷ []
 with_rule rules _ = rules
-
-abbrev pub with_skip : List Word → Line → List Word
-with_skip names (Rule skip name pattern) = if skip then with_name names name else names
-with_skip names _ = names
 
 abbrev pub with_left : List Word → Line → List Word
 with_left names (Production left right) = with_name names left

@@ -25,6 +25,7 @@
 mod fault;
 mod file;
 pub mod laws;
+mod meanings;
 mod name_set;
 mod names;
 mod production_set;

@@ -1,13 +1,14 @@
 //! The names that the lines of a file define.
 
-ghost use Rattle.std.specs.Prelude.{◌≡◌, ◌+◌, ◌<◌, ◌^◌, ◌++◌, ◌∷◌, List, [], None, Some, if◌then◌else◌, length, OnOk};
-ghost use Rattle.definitions.specs.declared.Symbol.TheVariants.{Nonterminal};
+ghost use Rattle.std.specs.Prelude.{◌≡◌, ◌+◌, ◌<◌, ◌^◌, ◌++◌, ◌∷◌, List, [], None, Some, if◌then◌else◌, length, map, OnOk};
+ghost use Rattle.definitions.specs.declared.Symbol.TheVariants.{Nonterminal, Rule as Terminal};
 ghost use Rattle.grammar_line.specs.Statements.{Statement};
-ghost use Rattle.grammar_file.specs.Contents.{defines, is_among, with_name};
+ghost use Rattle.grammar_file.specs.Contents.{defines, is_among, number_of, with_name};
 ghost use Rattle.grammar_file.specs.WrittenOut.{with_marked};
 ghost use Rattle.grammar_line.specs.Kept.{line_view, texts};
-ghost use Rattle.grammar_file.specs.Kept.{rule_line, AreNames, with_rule, with_skip, with_left, with_right, with_sides, with_names, with_production, with_start};
+ghost use Rattle.grammar_file.specs.Kept.{rule_line, AreNames, HasMeanings, with_rule, with_left, with_right, with_sides, with_names, with_production, with_start};
 
+use crate::meanings::Meanings;
 use crate::name_set::NameSet;
 use crate::production_set::ProductionSet;
 use crate::rules::{RuleName, Rules};
@@ -20,10 +21,10 @@ use std::alloc::{AllocError, Global};
 pub struct Names<'a> {
     /// The rules, in file order.
     pub rules: Rules<'a>,
-    /// The names of the `skip` rules.
-    pub(crate) skips: NameSet<'a>,
     /// The nonterminals, in the order of their first productions.
     pub nonterminals: NameSet<'a>,
+    /// What the names of rules and nonterminals mean.
+    pub(crate) meanings: Meanings<'a>,
     /// The marked words on right sides, in the order of first occurrence.
     pub(crate) marked: NameSet<'a>,
     /// The productions.
@@ -41,8 +42,8 @@ impl<'a> Names<'a> {
     {
         Names {
             rules: Rules::new(alloc),
-            skips: NameSet::new(alloc),
             nonterminals: NameSet::new(alloc),
+            meanings: Meanings::new(alloc),
             marked: NameSet::new(alloc),
             sides: ProductionSet::new(alloc),
             productions: 0,
@@ -55,8 +56,6 @@ impl<'a> Names<'a> {
         requires { self.old.productions < 2 ^ 32 }
         ensures rules { OnOk result (self.new.rules
             ≡ with_rule self.old.rules (line_view line.now)) }
-        ensures skips { OnOk result (self.new.skips
-            ≡ with_skip self.old.skips (line_view line.now)) }
         ensures nonterminals { OnOk result (self.new.nonterminals
             ≡ with_left self.old.nonterminals (line_view line.now)) }
         ensures marked { OnOk result (self.new.marked
@@ -67,6 +66,7 @@ impl<'a> Names<'a> {
             ≡ with_production self.old.productions (line_view line.now)) }
         ensures started { OnOk result (self.new.started
             ≡ with_start self.old.started (line_view line.now)) }
+        ensures meanings { OnOk result (HasMeanings self.old → HasMeanings self.new) }
     {
         match line {
             Line::Rule {
@@ -89,16 +89,14 @@ impl<'a> Names<'a> {
 
     /// Adds a rule.
     fn note_rule(&mut self, rule: RuleName<'a>) -> Result<(), AllocError>
-        ensures { OnOk result (self.new
+        ensures is { OnOk result (self.new
             ≡ record self.old {
               rules = self.old.rules ++ rule_line rule.entry ∷ [];
-              skips = if rule.entry.skip then with_name self.old.skips rule.entry.name.now else
-                  self.old.skips;
+              meanings = self.new.meanings;
             }) }
+        ensures meanings { OnOk result (HasMeanings self.old → HasMeanings self.new) }
     {
-        if rule.skip {
-            self.skips.add(rule.name)?;
-        }
+        self.meanings.add_rule(rule, self.rules.len())?;
         self.rules.add(rule)
     }
 
@@ -110,19 +108,54 @@ impl<'a> Names<'a> {
         right: &[&'a str],
     ) -> Result<(), AllocError>
         requires { self.old.productions < 2 ^ 32 }
-        ensures { OnOk result (self.new
+        ensures is { OnOk result (self.new
             ≡ record self.old {
               nonterminals = with_name self.old.nonterminals left.now;
+              meanings = self.new.meanings;
               marked = with_marked self.old.marked (texts right.now);
               sides = with_names self.old.sides (left.now ∷ texts right.now);
               productions = self.old.productions + 1;
             }) }
+        ensures meanings { OnOk result (HasMeanings self.old → HasMeanings self.new) }
     {
-        self.nonterminals.add(left)?;
+        self.note_left(left)?;
         add_marked(&mut self.marked, right)?;
         self.sides.add(alloc, left, right)?;
         self.productions += 1;
         Ok(())
+    }
+
+    /// Adds a left side, unless it is there.
+    fn note_left(&mut self, left: &'a str) -> Result<(), AllocError>
+        ensures is { OnOk result (self.new
+            ≡ record self.old {
+              nonterminals = with_name self.old.nonterminals left.now;
+              meanings = self.new.meanings;
+            }) }
+        ensures meanings { OnOk result (HasMeanings self.old → HasMeanings self.new) }
+    {
+        if self.nonterminals.contains(left) {
+            return Ok(());
+        }
+        self.meanings
+            .add_nonterminal(left, self.nonterminals.len())?;
+        self.nonterminals.add(left)
+    }
+
+    /// The symbol of a name: the nonterminal, or else the first rule of this name. Where there is
+    /// neither, it has the count of the rules.
+    pub fn symbol(&self, name: &str) -> Symbol
+        requires { HasMeanings self.now }
+        ensures { result
+            ≡ (if is_among name.now self.now.nonterminals
+            then Nonterminal (number_of name.now self.now.nonterminals)
+            else Terminal (number_of name.now (map (λ r. r.name) self.now.rules))) }
+    {
+        let meaning = self.meanings.of(name);
+        match meaning.nonterminal {
+            Some(nonterminal) => Symbol::Nonterminal(nonterminal),
+            None => Symbol::Rule(meaning.rule.unwrap_or(self.rules.len())),
+        }
     }
 
     /// What a line defines after those so far: a rule, or a nonterminal at its first production.

@@ -78,12 +78,13 @@ fn test_symbol(alloc: Global, names: &Names<'_>, name: &str) -> Result<(), Gramm
     ensures { (ss : List Statement) → AreNames names.now ss →
         Tells result (symbol_fault ss name.now) }
 {
-    if names.nonterminals.contains(name) {
+    let meaning = names.meanings.of(name);
+    if meaning.nonterminal.is_some() {
         Ok(())
-    } else if names.skips.contains(name) {
+    } else if meaning.skip {
         let name = String::from_str(alloc, name)?;
         Err(GrammarCause::SkipInProduction(name))
-    } else if names.rules.contains(name) {
+    } else if meaning.rule.is_some() {
         Ok(())
     } else {
         let name = String::from_str(alloc, name)?;

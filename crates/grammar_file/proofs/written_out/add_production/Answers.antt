@@ -9,6 +9,6 @@ returns-clause-names c =
     (λ same.
     subst (AreNames c.note.new.self) (sym same)
     (names-step c.args.names.now c.note.new.self (lines_view c.args.statements.now.items) 0 (Production c.args.left.now (texts c.in_ok-to_vec.field-0.items))
-    c.requires.names c.in_ok-note.ensures.rules c.in_ok-note.ensures.skips c.in_ok-note.ensures.nonterminals c.in_ok-note.ensures.marked
-    c.in_ok-note.ensures.sides c.in_ok-note.ensures.productions c.in_ok-note.ensures.started))
+    c.requires.names c.in_ok-note.ensures.rules c.in_ok-note.ensures.nonterminals c.in_ok-note.ensures.marked
+    c.in_ok-note.ensures.sides c.in_ok-note.ensures.productions c.in_ok-note.ensures.started c.in_ok-note.ensures.meanings))
     c.add_line.ensures
