@@ -274,6 +274,8 @@ TEXTS = {
         "UPDATE a SET b",
         "CREATE TABLE a (",
         "CREATE TABLE (b INT)",
+        "CREATE TABLE a (b INT), c INT)",
+        "CREATE TABLE a (b INT) NOT NULL, c INT)",
         "DELETE FROM",
         "SELECT a FROM b LIMIT",
     ],
