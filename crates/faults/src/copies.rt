@@ -6,8 +6,11 @@ ghost use Rattle.docs.specs.Docs.{IsCurrent};
 ghost use Rattle.lexer.specs.Rescans.{significant_kinds};
 ghost use Rattle.mending.specs.Mendings.{IsMendingOf};
 
+use crate::signs::{begins_with_sign, brackets, of_text, opens, shortest};
+use definitions::Expression;
 use docs::{Doc, Language, Significant};
-use mending::{Mending, Rank};
+use grammar::Grammar;
+use mending::{Balance, Mending, Rank};
 use parser::Verdict;
 use settings::RuleText;
 use std::alloc::{AllocError, Global};
@@ -29,7 +32,7 @@ pub fn mended(
     if let Verdict::Tree(_) = doc.parse().verdict() {
         return Ok(None);
     }
-    let ranks = ranks(alloc, texts)?;
+    let ranks = ranks(alloc, language.grammar(), texts)?;
     let kinds = Significant(doc.tokens());
     Ok(Some(Mending::whole(alloc, language.tables(), &ranks, &kinds)?))
 }
@@ -52,24 +55,59 @@ pub fn followed(
     ensures { IfOk result
         (IsMendingOf language.now.tables (significant_kinds doc.now.tokens.items)) }
 {
-    let ranks = ranks(alloc, texts)?;
+    let ranks = ranks(alloc, language.grammar(), texts)?;
     let kinds = Significant(doc.tokens());
     before.follow(alloc, language.tables(), &ranks, &kinds)
 }
 
-/// The ranks of rules with these texts: of two kinds that mend a fault as well, the one of the
-/// lower rank is put in, or left out. Refuses for memory alone.
-pub fn ranks(alloc: Global, texts: &[Option<RuleText>]) -> Result<Vec<Rank>, AllocError>
+/// The ranks of the rules of a grammar, which have these texts: of two kinds that mend a fault as
+/// well, the one of the lower rank is put in, or left out. Refuses for memory alone.
+pub fn ranks(
+    alloc: Global,
+    grammar: &Grammar,
+    texts: &[Option<RuleText>],
+) -> Result<Vec<Rank>, AllocError>
     ensures { IfOk result (λ ranks. length ranks.items ≡ length texts.now) }
 {
+    let patterns = grammar.patterns();
     let mut ranks = Vec::with_capacity(alloc, texts.len())?;
     for text in texts {
-        ranks.push(match text {
-            Some(text) => rank(&text.text),
-            None => NAME,
-        })?;
+        let expression = match patterns.get(ranks.len()) {
+            Some(pattern) => Some(pattern.expression()),
+            None => None,
+        };
+        ranks.push(rank_of(alloc, text.as_ref(), expression)?)?;
     }
     Ok(ranks)
+}
+
+/// The rank of a rule of this text and this expression.
+fn rank_of(
+    alloc: Global,
+    text: Option<&RuleText>,
+    expression: Option<&Expression>,
+) -> Result<Rank, AllocError> {
+    match (text, expression) {
+        (Some(text), _) => Ok(rank(&text.text)),
+        (None, Some(expression)) => match shortest(alloc, expression)? {
+            Some(text) => Ok(rank(&text)),
+            None => Ok(rank_of_pattern(expression)),
+        },
+        (None, None) => Ok(NAME),
+    }
+}
+
+/// The rank of a rule that has no text of its own, and no shortest one.
+fn rank_of_pattern(expression: &Expression) -> Rank {
+    let balance = brackets(expression);
+    let rank = if opens(balance) {
+        OPENING
+    } else if begins_with_sign(expression) {
+        MARKED
+    } else {
+        NAME
+    };
+    Rank { balance, ..rank }
 }
 
 /// The rank of leaving out what doesn't bear on what stands around it.
@@ -83,24 +121,35 @@ const TEARING: u8 = 17;
 const CLOSING: Rank = Rank {
     put_in: 0,
     leave_out: TEARING,
+    balance: Balance::EVEN,
 };
 
 /// The rank of other signs.
 const SIGN: Rank = Rank {
     put_in: 1,
     leave_out: LOOSE,
+    balance: Balance::EVEN,
 };
 
 /// The rank of a name, a number, and whatever else has no text of its own.
 const NAME: Rank = Rank {
     put_in: 2,
     leave_out: LOOSE,
+    balance: Balance::EVEN,
 };
 
 /// The rank of words.
 const WORD: Rank = Rank {
     put_in: 3,
     leave_out: LOOSE,
+    balance: Balance::EVEN,
+};
+
+/// The rank of what has no text of its own and begins with a sign, as `@name` does.
+const MARKED: Rank = Rank {
+    put_in: 4,
+    leave_out: LOOSE,
+    balance: Balance::EVEN,
 };
 
 /// The rank of what opens. Putting it in comes after all else: then what closes has to be put in
@@ -108,6 +157,7 @@ const WORD: Rank = Rank {
 const OPENING: Rank = Rank {
     put_in: TEARING + 1,
     leave_out: TEARING,
+    balance: Balance::EVEN,
 };
 
 /// Whether a text closes or separates, by a sign.
@@ -117,11 +167,15 @@ pub(crate) fn closes(text: &str) -> bool {
 
 /// The rank of a rule of this text.
 fn rank(text: &str) -> Rank {
-    match text {
+    let rank = match text {
         "end" => CLOSING,
         _ if closes(text) => CLOSING,
         "(" | "[" | "{" => OPENING,
         _ if text.chars().all(|character| character.is_alphanumeric()) => WORD,
         _ => SIGN,
+    };
+    Rank {
+        balance: of_text(text),
+        ..rank
     }
 }

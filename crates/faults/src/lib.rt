@@ -34,6 +34,7 @@ mod edits;
 mod fixes;
 mod later;
 mod scans;
+mod signs;
 mod spans;
 mod steps;
 mod words;

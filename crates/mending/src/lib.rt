@@ -29,6 +29,7 @@
 //! ```
 #![tactic(auto)]
 
+mod balances;
 mod check;
 mod edit;
 mod follow;
@@ -42,6 +43,6 @@ mod walk;
 
 pub use listed::Listed;
 pub use mending::Mending;
-pub use remedies::{Change, Rank};
+pub use remedies::{Balance, Change, Rank};
 pub use repair::Repair;
 pub use walk::MOST_FAULTS;

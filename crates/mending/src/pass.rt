@@ -3,13 +3,14 @@
 ghost use Rattle.std.specs.Prelude.{◌≡◌};
 ghost use Rattle.mending.specs.Mendings.{HasParse};
 
+use crate::balances::balances;
 use crate::edit::Edit;
 use crate::mending::Mending;
 use crate::repair::Repair;
 use crate::seam::Seam;
-use crate::walk::{CAREFUL, MOST_FAULTS, Step, Walk};
+use crate::walk::{CAREFUL, MOST_FAULTS, Start, Step, Walk};
 use definitions::Kind;
-use remedies::{Change, LOOK, Rank};
+use remedies::{Balance, Change, LOOK, Rank};
 use states::Pile;
 use std::alloc::{AllocError, Global};
 use tables::Tables;
@@ -132,6 +133,30 @@ impl Mending {
         }
     }
 
+    /// Where the way through an edit begins that makes these kinds of those that are mended, with
+    /// these balances before; none where the first repairs might be other ones now.
+    fn start(
+        &self,
+        alloc: Global,
+        ranks: &[Rank],
+        kinds: &[Kind],
+        plan: Plan,
+        before: &[Balance],
+    ) -> Result<Option<Start>, AllocError> {
+        let kept = self.first(plan.kept);
+        let now = balances(alloc, ranks, kinds, kept)?;
+        let is_even = before.first() == now.first();
+        let (Some(balance), true) = (now.last(), kept.is_empty() || is_even) else {
+            return Ok(None);
+        };
+        Ok(Some(Start {
+            place: plan.start,
+            done: Seam::behind_all(kept),
+            repairs: plan.kept,
+            balance: *balance,
+        }))
+    }
+
     /// Passes through what an edit changes. None where that can't be told.
     pub(crate) fn pass<'a>(
         &'a self,
@@ -147,13 +172,16 @@ impl Mending {
         let Some(base) = Pile::at(alloc, tables, &self.store, &self.parse, at)? else {
             return Ok(None);
         };
-        let last = Seam::behind_all(self.first(plan.kept));
-        let walk = Walk::new(alloc, ranks, kinds, base, plan.start, last, plan.kept)?;
+        let balances = balances(alloc, ranks, &self.origin, &self.repairs)?;
+        let Some(start) = self.start(alloc, ranks, kinds, plan, &balances)? else {
+            return Ok(None);
+        };
         let mut pass = Pass {
             alloc,
             tables,
             before: self,
-            walk,
+            balances,
+            walk: Walk::new(alloc, ranks, kinds, base, start)?,
             plan,
             behind: plan.behind,
             is_sure: false,
@@ -189,6 +217,8 @@ struct Pass<'a> {
     alloc: Global,
     tables: &'a Tables,
     before: &'a Mending,
+    /// The balance of the old kinds before any old repair, and after each of them.
+    balances: Vec<Balance>,
     walk: Walk<'a>,
     plan: Plan,
     /// The number of the first old repair that stays behind.
@@ -201,7 +231,11 @@ impl Pass<'_> {
     /// Whether the old repairs from here on are as they would be looked for now.
     fn are_alike(&self) -> bool {
         let count = self.before.repairs.len().saturating_sub(self.behind);
-        are_alike(self.behind, self.walk.number(), count)
+        let is_even = match self.balances.get(self.behind) {
+            Some(balance) => *balance == self.walk.balance,
+            None => false,
+        };
+        is_even && are_alike(self.behind, self.walk.number(), count)
     }
 
     /// Whether a repair would be found here as it was.

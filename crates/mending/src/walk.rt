@@ -2,10 +2,11 @@
 
 ghost use Rattle.std.specs.Prelude.{◌≡◌, IfOk};
 
+use crate::balances::{balance_of, changed_by};
 use crate::repair::Repair;
 use crate::seam::Seam;
 use definitions::Kind;
-use remedies::{Change, Fault, Rank, Remedy};
+use remedies::{Balance, Change, Fault, Rank, Remedy};
 use states::Pile;
 use std::alloc::{AllocError, Global};
 use tables::{Expected, Tables};
@@ -58,6 +59,18 @@ pub(crate) enum Step {
     Stuck,
 }
 
+/// Where a way begins.
+#[derive(Clone, Copy)]
+pub(crate) struct Start {
+    pub(crate) place: Seam,
+    /// The end of the last repair before it.
+    pub(crate) done: Seam,
+    /// How many repairs are made before it.
+    pub(crate) repairs: usize,
+    /// The balance of the copy up to there and the kinds from there on.
+    pub(crate) balance: Balance,
+}
+
 /// What the kinds and the copy have on the way.
 #[derive(Drop)]
 pub(crate) struct Walk<'a> {
@@ -75,6 +88,8 @@ pub(crate) struct Walk<'a> {
     pub(crate) made: Vec<Kind>,
     /// The number of the next kind that is mended.
     pub(crate) next: usize,
+    /// The balance of the copy so far and the kinds from there on.
+    pub(crate) balance: Balance,
     /// The end of the last repair.
     pub(crate) done: Seam,
     /// How many repairs are made before.
@@ -83,16 +98,13 @@ pub(crate) struct Walk<'a> {
 }
 
 impl<'a> Walk<'a> {
-    /// The way from a place on, where there is this stack and so many repairs are made before it,
-    /// the last of which ends at `done`.
+    /// The way from a place on, where there is this stack.
     pub(crate) fn new(
         alloc: Global,
         ranks: &'a [Rank],
         kinds: &'a [Kind],
         base: Pile<'a>,
-        start: Seam,
-        done: Seam,
-        before: usize,
+        start: Start,
     ) -> Result<Walk<'a>, AllocError> {
         Ok(Walk {
             alloc,
@@ -100,11 +112,12 @@ impl<'a> Walk<'a> {
             kinds,
             pile: base.copy(alloc)?,
             base,
-            at: start.copy,
+            at: start.place.copy,
             made: Vec::new(alloc),
-            next: start.kind,
-            done,
-            before,
+            next: start.place.kind,
+            balance: start.balance,
+            done: start.done,
+            before: start.repairs,
             repairs: Vec::new(alloc),
         })
     }
@@ -192,6 +205,7 @@ impl<'a> Walk<'a> {
         Fault {
             pile: &self.pile,
             kinds,
+            balance: self.balance,
             most: fault.saturating_sub(self.done.copy),
             moves: moves_at(self.number()),
         }
@@ -220,6 +234,8 @@ impl<'a> Walk<'a> {
         if !self.make(&remedy.changes)? {
             return Ok(Step::Stuck);
         }
+        let changed = changed_by(self.ranks, self.kinds, from, &remedy.changes);
+        self.balance = self.balance.with(changed);
         self.done = Seam {
             copy: self.at.saturating_add(self.made.len()),
             kind: self.next,
@@ -272,8 +288,14 @@ pub(crate) fn mend_all(
     kinds: &[Kind],
 ) -> Result<Mended, AllocError> {
     let begin = Seam { copy: 0, kind: 0 };
+    let start = Start {
+        place: begin,
+        done: begin,
+        repairs: 0,
+        balance: balance_of(ranks, kinds),
+    };
     let base = Pile::new(alloc, tables)?;
-    let mut walk = Walk::new(alloc, ranks, kinds, base, begin, begin, 0)?;
+    let mut walk = Walk::new(alloc, ranks, kinds, base, start)?;
     for _ in 0..walk.most_steps() {
         match walk.step()? {
             Step::Ended | Step::Stuck => break,

@@ -11,5 +11,5 @@ use std::alloc::Global;
 pub fn ranks(alloc: Global, language: &Language) -> Result<Vec<Rank>> {
     let settings = guess(alloc, language.grammar())?;
     let texts = texts(alloc, language.grammar(), &settings)?;
-    Ok(faults::ranks(alloc, &texts)?)
+    Ok(faults::ranks(alloc, language.grammar(), &texts)?)
 }

@@ -4,10 +4,10 @@ ghost use Rattle.std.specs.Prelude.{List};
 ghost use Rattle.definitions.specs.declared.Kind.{Kind as TokenKind};
 ghost use Rattle.mending.specs.Mendings.{IsMendingOf};
 
-use crate::ranks::{CLOSING, NAME, OPENING, SIGN, WORD};
+use crate::ranks::{CLOSING, CURLY, NAME, ROUND, SIGN, SQUARE, WORD, closing, opening};
 use definitions::Kind;
 use grammar::Grammar;
-use mending::{Change, Listed, Mending, Rank};
+use mending::{Balance, Change, Listed, Mending, Rank};
 use std::alloc::Global;
 use std::process::Abort;
 use tables::Tables;
@@ -221,7 +221,7 @@ fn copies_of_sums_follow_edits(rt: HostRuntime) {
     let tables = Tables::build(rt.alloc(), &grammar).expect(&rt, "tables");
     let tried = Tried {
         tables: &tables,
-        ranks: &[NAME, SIGN, OPENING, CLOSING],
+        ranks: &[NAME, SIGN, opening(ROUND), closing(ROUND)],
         pieces: &[&[0], &[2, 0, 1, 0, 3], &[2, 2, 0, 3, 1, 0, 3]],
         between: Some(1),
     };
@@ -247,7 +247,7 @@ fn copies_of_chains_follow_edits(rt: HostRuntime) {
     let tables = Tables::build(rt.alloc(), &grammar).expect(&rt, "tables");
     let tried = Tried {
         tables: &tables,
-        ranks: &[NAME, CLOSING, OPENING, CLOSING],
+        ranks: &[NAME, CLOSING, opening(SQUARE), closing(SQUARE)],
         pieces: &[&[0], &[2, 0, 1, 0, 3], &[2, 3]],
         between: Some(1),
     };
@@ -261,8 +261,19 @@ fn copies_of_blocks_follow_edits(rt: HostRuntime) {
     let tried = Tried {
         tables: &tables,
         ranks: &[
-            CLOSING, CLOSING, CLOSING, CLOSING, OPENING, OPENING, SIGN, SIGN, WORD, WORD, WORD,
-            NAME, NAME,
+            CLOSING,
+            CLOSING,
+            closing(ROUND),
+            closing(CURLY),
+            opening(CURLY),
+            opening(ROUND),
+            SIGN,
+            SIGN,
+            WORD,
+            WORD,
+            WORD,
+            NAME,
+            NAME,
         ],
         pieces: &[
             &[8, 11, 6, 12, 7, 11, 0],
@@ -315,4 +326,88 @@ fn a_repair_far_behind_an_edit_is_found_anew_on_another_stack(rt: HostRuntime) {
     assert_changed(&rt, &mending, &[Change::PutIn(5)]);
     mending = follow(&rt, alloc, tried, mending, &long);
     assert_changed(&rt, &mending, &[Change::PutIn(3), Change::PutIn(4)]);
+}
+
+/// `if` and a name, and then so many statements of a name.
+fn headless(rt: &impl Abort, alloc: Global, count: usize) -> Vec<Kind> {
+    let mut kinds = Vec::new(alloc);
+    add(rt, &mut kinds, &[9, 11]);
+    for _ in 0..count {
+        add(rt, &mut kinds, &[11, 0]);
+    }
+    kinds
+}
+
+/// Ranks by which braces are put in before all else; they count as such, or not.
+fn bracing(counts: bool) -> [Rank; 13] {
+    let curly = if counts { CURLY } else { Balance::EVEN };
+    let opens = Rank {
+        balance: curly,
+        ..CLOSING
+    };
+    [
+        SIGN,
+        SIGN,
+        SIGN,
+        closing(curly),
+        opens,
+        WORD,
+        WORD,
+        WORD,
+        WORD,
+        WORD,
+        WORD,
+        WORD,
+        WORD,
+    ]
+}
+
+/// The first repair of the copy has these changes.
+fn assert_begins(rt: &impl Abort, mending: &Mending, changes: &[Change]) {
+    assert!(rt; mending.repairs().len() > 0);
+    assert!(rt; mending.repairs()[0].changes.as_slice() == changes);
+}
+
+#[test]
+fn a_bracket_is_put_in_with_its_partner(rt: HostRuntime) {
+    let alloc = rt.alloc();
+    let grammar = Grammar::read(alloc, BLOCKS).expect(&rt, "a grammar");
+    let tables = Tables::build(alloc, &grammar).expect(&rt, "tables");
+    let kinds = headless(&rt, alloc, 200);
+    let rows: [(bool, &[Change]); 2] = [
+        (false, &[Change::PutIn(4)]),
+        (true, &[Change::PutIn(4), Change::PutIn(3)]),
+    ];
+    for (counts, changes) in &rows {
+        let tried = Tried {
+            tables: &tables,
+            ranks: &bracing(*counts),
+            pieces: &[],
+            between: None,
+        };
+        assert_begins(&rt, &anew(&rt, alloc, tried, &kinds), changes);
+    }
+}
+
+#[test]
+fn a_partner_far_behind_counts_for_a_repair_before_it(rt: HostRuntime) {
+    let alloc = rt.alloc();
+    let grammar = Grammar::read(alloc, BLOCKS).expect(&rt, "a grammar");
+    let tables = Tables::build(alloc, &grammar).expect(&rt, "tables");
+    let tried = Tried {
+        tables: &tables,
+        ranks: &bracing(true),
+        pieces: &[],
+        between: None,
+    };
+    let open = headless(&rt, alloc, 400);
+    let mut closed = headless(&rt, alloc, 400);
+    add(&rt, &mut closed, &[3]);
+    let pair = [Change::PutIn(4), Change::PutIn(3)];
+    let mut mending = anew(&rt, alloc, tried, &open);
+    assert_changed(&rt, &mending, &pair);
+    mending = follow(&rt, alloc, tried, mending, &closed);
+    assert_changed(&rt, &mending, &[Change::PutIn(4)]);
+    mending = follow(&rt, alloc, tried, mending, &open);
+    assert_changed(&rt, &mending, &pair);
 }

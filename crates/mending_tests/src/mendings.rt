@@ -3,7 +3,7 @@
 use crate::ranks::{CLOSING, NAME, OPENING, SIGN, WORD};
 use definitions::Kind;
 use grammar::Grammar;
-use mending::{Change, Listed, Mending, Rank};
+use mending::{Balance, Change, Listed, Mending, Rank};
 use std::alloc::Global;
 use std::process::Abort;
 use tables::Tables;
@@ -21,6 +21,7 @@ const RP: Kind = Kind::Rule(3);
 const FIRST: Rank = Rank {
     put_in: 0,
     leave_out: 1,
+    balance: Balance::EVEN,
 };
 
 /// A sign and a closing parenthesis are put in rather than a number, and that rather than an

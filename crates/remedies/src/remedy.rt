@@ -4,6 +4,7 @@ ghost use Rattle.std.specs.Prelude.{◌≡◌, ◌≤◌, IfOk, IfSome};
 ghost use Rattle.remedies.specs.Changes.{passed};
 
 use crate::ahead::Ahead;
+use crate::balance::Balance;
 use crate::change::Change;
 use crate::rank::Rank;
 use crate::resume::{Gap, bases, least_gap, stack_of};
@@ -19,6 +20,8 @@ pub struct Fault<'a> {
     pub pile: &'a Pile<'a>,
     /// The kinds from the fault on.
     pub kinds: &'a [Kind],
+    /// The balance of all kinds, those before it too.
+    pub balance: Balance,
     /// How many kinds right before it may be left out.
     pub most: usize,
     /// How many moves are tried, and then again for a gap.
@@ -94,7 +97,7 @@ impl Fault<'_> {
         let mut trees = Vec::new(alloc);
         let stack = stack_of(&mut ahead.stacks, self.pile, &mut trees)?;
         ahead.stacks.allow(self.moves);
-        let mut search = Search::new(alloc, ahead, ranks, stack)?;
+        let mut search = Search::new(alloc, ahead, ranks, self.balance, stack)?;
         if let Some(repairs) = search.run()?
             && let Some(remedy) = few_changes(alloc, repairs)?
         {

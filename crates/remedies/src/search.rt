@@ -2,6 +2,7 @@
 //! 2020).
 
 use crate::ahead::{Ahead, ENOUGH};
+use crate::balance::Balance;
 use crate::change::Change;
 use crate::rank::Rank;
 use definitions::Kind;
@@ -18,10 +19,13 @@ const NEAR: usize = 32;
 const FEW: usize = 8;
 
 /// How many changes a fault costs that comes sooner, since it mostly follows from the changes.
-const SOON: usize = 3;
+const SOON: usize = 2;
 
 /// How many changes another fault costs.
 const LATER: usize = 1;
+
+/// How many changes a bracket costs that has no partner any more.
+const UNMATCHED: usize = 2;
 
 /// How many places with as many changes are tried.
 const MOST_PLACES: usize = 512;
@@ -36,6 +40,7 @@ const MOST_REPAIRS: usize = 8;
 const UNRANKED: Rank = Rank {
     put_in: u8::MAX,
     leave_out: 1,
+    balance: Balance::EVEN,
 };
 
 /// A place to which changes lead.
@@ -53,6 +58,8 @@ struct Place {
     change: Change,
     /// The sum of the ranks of all changes that lead here.
     rank: usize,
+    /// What these add to the balance.
+    balance: Balance,
 }
 
 /// How good a place is.
@@ -60,7 +67,7 @@ struct Place {
 struct Rating {
     /// How many kinds are put in and left out.
     changes: usize,
-    /// These, and what a fault behind them costs.
+    /// These, and what a fault behind them and brackets without a partner cost.
     cost: usize,
     /// How many of the kinds ahead are passed there.
     passed: usize,
@@ -96,6 +103,8 @@ pub struct Search<'a> {
     pub ahead: Ahead<'a>,
     /// The rank of each token rule.
     ranks: &'a [Rank],
+    /// The balance of all kinds.
+    balance: Balance,
     places: Vec<Place>,
     /// How many places there may be.
     most: usize,
@@ -112,6 +121,7 @@ impl<'a> Search<'a> {
         alloc: Global,
         ahead: Ahead<'a>,
         ranks: &'a [Rank],
+        balance: Balance,
         stack: usize,
     ) -> Result<Search<'a>, AllocError> {
         let mut places = Vec::new(alloc);
@@ -122,11 +132,13 @@ impl<'a> Search<'a> {
             kept: 0,
             change: Change::Keep,
             rank: 0,
+            balance: Balance::EVEN,
         })?;
         Ok(Search {
             alloc,
             ahead,
             ranks,
+            balance,
             places,
             most: 0,
             seen: IndexSet::new(alloc),
@@ -156,10 +168,12 @@ impl<'a> Search<'a> {
         let Some(kind) = self.ahead.kinds.get(here.passed).copied() else {
             return Ok(());
         };
+        let rank = self.rank(kind);
         self.add(Place {
             passed: here.passed.saturating_add(1),
             change: Change::LeaveOut,
-            rank: here.rank.saturating_add(self.rank(kind).leave_out as usize),
+            rank: here.rank.saturating_add(rank.leave_out as usize),
+            balance: here.balance.without(rank.balance),
             ..here
         })
     }
@@ -170,10 +184,12 @@ impl<'a> Search<'a> {
         let Some(stack) = self.ahead.stacks.read(here.stack, kind)? else {
             return Ok(());
         };
+        let rank = self.rank(kind);
         self.add(Place {
             stack,
             change: Change::PutIn(rule),
-            rank: here.rank.saturating_add(self.rank(kind).put_in as usize),
+            rank: here.rank.saturating_add(rank.put_in as usize),
+            balance: here.balance.with(rank.balance),
             ..here
         })
     }
@@ -226,9 +242,12 @@ impl<'a> Search<'a> {
         } else {
             SOON
         };
+        let unmatched = self.balance.unmatched_by(place.balance);
         let rating = Rating {
             changes,
-            cost: changes.saturating_add(more),
+            cost: changes
+                .saturating_add(more)
+                .saturating_add(unmatched.saturating_mul(UNMATCHED)),
             passed: place.passed,
             reach,
             rank: place.rank,
@@ -318,10 +337,10 @@ impl<'a> Search<'a> {
     }
 
     /// The cheapest changes after which enough kinds go on, where a fault that comes behind costs
-    /// too; of these the ones with which the most kinds go on, then those of the lowest sum of
-    /// ranks, of what they put in and leave out, and then the first ones, where leaving out comes
-    /// before putting in, and that in file order. They come first, and behind them others of as
-    /// many changes, the best first, eight in all.
+    /// too, and so does a bracket that has no partner any more; of these the ones with which the
+    /// most kinds go on, then those of the lowest sum of ranks, of what they put in and leave out,
+    /// and then the first ones, where leaving out comes before putting in, and that in file order.
+    /// They come first, and behind them others of as many changes, the best first, eight in all.
     /// None where none are found, or where the moves run out before all are tried and a fault
     /// comes right behind the best ones.
     pub fn run(&mut self) -> Result<Option<Vec<Vec<Change>>>, AllocError> {

@@ -13,15 +13,20 @@ ghost use Rattle.readings.specs.Contents.{placed_parts};
 use definitions::Range;
 use docs::{Doc, Language};
 use faults::{About, FaultBehind, Fix, Note, TextEdit, Words};
+use grammar::Grammar;
 use mending::{Mending, Rank};
 use settings::{RuleText, Settings};
 use std::alloc::{AllocError, Global};
 
 /// `faults::ranks`.
-pub fn ranks(alloc: Global, texts: &[Option<RuleText>]) -> Result<Vec<Rank>, AllocError>
+pub fn ranks(
+    alloc: Global,
+    grammar: &Grammar,
+    texts: &[Option<RuleText>],
+) -> Result<Vec<Rank>, AllocError>
     ensures { IfOk result (λ ranks. length ranks.items ≡ length texts.now) }
 {
-    faults::ranks(alloc, texts)
+    faults::ranks(alloc, grammar, texts)
 }
 
 /// `faults::mended`.

@@ -12,7 +12,7 @@ ghost use Rattle.trees.specs.declared.store.Child.{Child};
 
 use definitions::{Kind, Position, Range};
 use docs::{Doc, Language};
-use mending::{Change, Listed, Mending, Rank, Repair};
+use mending::{Balance, Change, Listed, Mending, Rank, Repair};
 use parser::Parse;
 use std::alloc::{AllocError, Global};
 use tables::Tables;
@@ -126,9 +126,38 @@ pub fn change(change: Change) -> Option<usize> {
 }
 
 /// `Rank`.
-pub fn rank(rank: Rank) -> (u8, u8) {
-    let Rank { put_in, leave_out } = rank;
-    (put_in, leave_out)
+pub fn rank(rank: Rank) -> (u8, u8, Balance) {
+    let Rank {
+        put_in,
+        leave_out,
+        balance,
+    } = rank;
+    (put_in, leave_out, balance)
+}
+
+/// `Balance`.
+pub fn balance(balance: Balance) -> (i32, i32, i32) {
+    let Balance {
+        round,
+        square,
+        curly,
+    } = balance;
+    (round, square, curly)
+}
+
+/// `Balance::EVEN`.
+pub fn even() -> Balance {
+    Balance::EVEN
+}
+
+/// `Balance::with`.
+pub fn with(one: Balance, other: Balance) -> Balance {
+    one.with(other)
+}
+
+/// `Balance::without`.
+pub fn without(one: Balance, other: Balance) -> Balance {
+    one.without(other)
 }
 
 /// `outline::mended_folds`.

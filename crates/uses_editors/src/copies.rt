@@ -4,7 +4,7 @@ use definitions::Kind;
 use docs::{Doc, Language, Unit};
 use faults::{About, behind, mended};
 use mending::{Listed, Mending, Rank};
-use remedies::Fault;
+use remedies::{Balance, Fault};
 use settings::{RuleText, Settings};
 use states::Pile;
 use std::alloc::Global;
@@ -61,9 +61,11 @@ pub fn use_remedies(
     ranks: &[Rank],
     pile: &Pile<'_>,
 ) -> Option<()> {
+    let balance = Balance::EVEN;
     let fault = Fault {
         pile,
         kinds: &[],
+        balance,
         most: 2,
         moves: 2048,
     };

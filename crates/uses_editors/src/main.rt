@@ -17,7 +17,6 @@ use shown::Shown;
 use states::Pile;
 use std::alloc::Global;
 use std::process::ExitCode;
-use tables::Tables;
 use worked::SUMS;
 
 /// Settings by which each `Atom` with a `NUM` is a symbol. The others are guessed.
@@ -65,11 +64,12 @@ fn by_shown(rt: &HostRuntime, alloc: Global, language: &Language, shown: &Shown)
 fn by_tables(
     rt: &HostRuntime,
     alloc: Global,
-    tables: &Tables,
+    language: &Language,
     texts: &[Option<RuleText>],
 ) -> Option<()> {
+    let tables = language.tables();
     copies::use_states(rt, alloc, tables)?;
-    let ranks = ranks(alloc, texts).ok()?;
+    let ranks = ranks(alloc, language.grammar(), texts).ok()?;
     copies::use_mending(rt, alloc, tables, &ranks)?;
     let mut pile = Pile::new(alloc, tables).ok()?;
     let _goes_on = pile.read_all(&[Kind::Rule(2), Kind::Rule(0)]).ok()?;
@@ -83,7 +83,7 @@ fn of_language(rt: &HostRuntime, alloc: Global) -> Option<()> {
     by_symbols(rt, alloc, &language)?;
     let shown = servers::shown_of(alloc, &language)?;
     by_shown(rt, alloc, &language, &shown)?;
-    by_tables(rt, alloc, language.tables(), &shown.texts)?;
+    by_tables(rt, alloc, &language, &shown.texts)?;
     servers::use_shown(rt, alloc, language, shown)
 }
 
