@@ -68,7 +68,7 @@ BEHIND: List[Row] = [
         "local d = 4\nif a then b() \n",
         [
             (1, 0, 'unexpected "local"; expected', ""),
-            (2, 0, 'unexpected "print"; expected ")"', 'if "..." is put in at 1:10'),
+            (2, 0, 'unexpected "print"; expected ")"', "if a number is put in at 1:10"),
             (8, 0, "unexpected end of the text; expected", 'if ")" is put in at 2:13'),
         ],
     ),

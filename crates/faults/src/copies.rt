@@ -121,6 +121,7 @@ const TEARING: u8 = 17;
 const CLOSING: Rank = Rank {
     put_in: 0,
     leave_out: TEARING,
+    is_dear: false,
     balance: Balance::EVEN,
 };
 
@@ -128,6 +129,7 @@ const CLOSING: Rank = Rank {
 const SIGN: Rank = Rank {
     put_in: 1,
     leave_out: LOOSE,
+    is_dear: false,
     balance: Balance::EVEN,
 };
 
@@ -135,6 +137,7 @@ const SIGN: Rank = Rank {
 const NAME: Rank = Rank {
     put_in: 2,
     leave_out: LOOSE,
+    is_dear: false,
     balance: Balance::EVEN,
 };
 
@@ -142,13 +145,16 @@ const NAME: Rank = Rank {
 const WORD: Rank = Rank {
     put_in: 3,
     leave_out: LOOSE,
+    is_dear: false,
     balance: Balance::EVEN,
 };
 
-/// The rank of what has no text of its own and begins with a sign, as `@name` does.
+/// The rank of what has no text of its own and begins with a sign, as `@name` does. Put in, it
+/// mostly makes something else of what stands behind it.
 const MARKED: Rank = Rank {
     put_in: 4,
     leave_out: LOOSE,
+    is_dear: true,
     balance: Balance::EVEN,
 };
 
@@ -157,6 +163,7 @@ const MARKED: Rank = Rank {
 const OPENING: Rank = Rank {
     put_in: TEARING + 1,
     leave_out: TEARING,
+    is_dear: false,
     balance: Balance::EVEN,
 };
 

@@ -59,20 +59,19 @@ impl<'a> About<'a> {
 
     /// Adds what mends a fault.
     fn add_fixes(self, fixes: &mut Vec<Fix>, repair: &Repair) -> Result<(), AllocError> {
-        self.add_fix(fixes, repair, repair.from, &repair.changes, true)?;
+        self.add_fix(fixes, repair, &repair.changes, true)?;
         for other in &repair.others {
-            self.add_fix(fixes, repair, number_of(self.doc, repair), other, false)?;
+            self.add_fix(fixes, repair, other, false)?;
         }
         Ok(())
     }
 
-    /// Adds what changes from the significant token of this number on mean for the text, if they
-    /// are few and what they put in has a text.
+    /// Adds what changes from where a repair begins on mean for the text, if they are few and what
+    /// they put in has a text.
     fn add_fix(
         self,
         fixes: &mut Vec<Fix>,
         repair: &Repair,
-        from: usize,
         changes: &[Change],
         is_preferred: bool,
     ) -> Result<(), AllocError> {
@@ -84,7 +83,7 @@ impl<'a> About<'a> {
         {
             return Ok(());
         }
-        let steps = steps(self.alloc, from, changes)?;
+        let steps = steps(self.alloc, repair.from, changes)?;
         let Some(edits) = self.edits(&steps)? else {
             return Ok(());
         };

@@ -11,7 +11,7 @@ use crate::mending::Mending;
 use crate::pass::{Passed, Plan};
 use crate::repair::Repair;
 use definitions::Kind;
-use remedies::Rank;
+use remedies::{Pairs, Rank};
 use std::alloc::{AllocError, Global};
 use std::mem::replace;
 use tables::Tables;
@@ -110,7 +110,7 @@ impl Mending {
         ensures { IfOk result (λ done. done ≡ true
             → IsMendingOf tables.now kinds.items self.new) }
     {
-        if self.tree().is_none() {
+        if self.tree().is_none() || Pairs::of(alloc, ranks.len(), &kinds)? != self.pairs {
             return Ok(false);
         }
         let plan = self.plan(Edit::between(&self.origin, &kinds), kinds.len());

@@ -9,13 +9,14 @@ ghost use Rattle.trees.specs.declared.store.Child.{Child};
 ghost use Rattle.tables.specs.Tables.{Sets};
 ghost use Rattle.mending.specs.Mendings.{HasParse, IsMendingOf};
 
+use crate::balances::balance_of;
 use crate::kinds::{are_same, copied, replaced};
 use crate::listed::Listed;
 use crate::repair::Repair;
 use crate::walk::{Mended, mend_all};
 use definitions::{Kind, KindSplice};
 use parser::{Parse, Verdict};
-use remedies::{Origins, Rank};
+use remedies::{Guide, Origins, Pairs, Rank};
 use std::alloc::{AllocError, Global};
 use tables::Tables;
 use trees::{Kinds, NodeId, Store};
@@ -26,6 +27,8 @@ use trees::{Kinds, NodeId, Store};
 pub struct Mending {
     /// The kinds that are mended.
     pub(crate) origin: Vec<Kind>,
+    /// Which of these stand side by side.
+    pub(crate) pairs: Pairs,
     /// The kinds of the copy.
     pub(crate) copy: Vec<Kind>,
     /// The nodes of its parse.
@@ -51,12 +54,18 @@ impl Mending {
             → IfOk result (λ m. m.repairs.items ≡ []) }
     {
         let origin = copied(alloc, kinds)?;
-        let Mended { copy, repairs } = mend_all(alloc, tables, ranks, &origin)?;
-        let mut mending = Mending::with_copy(alloc, tables, origin, copy)?;
+        let pairs = Pairs::of(alloc, ranks.len(), &origin)?;
+        let guide = Guide {
+            ranks,
+            pairs: &pairs,
+            balance: balance_of(ranks, &origin),
+        };
+        let Mended { copy, repairs } = mend_all(alloc, tables, guide, &origin)?;
+        let mut mending = Mending::with_copy(alloc, tables, origin, pairs, copy)?;
         if mending.settle(alloc, tables, repairs)? {
             return Ok(mending);
         }
-        Mending::unmended(alloc, tables, mending.origin)
+        Mending::unmended(alloc, tables, mending.origin, mending.pairs)
     }
 
     /// A copy, whose repairs aren't known, of what is mended.
@@ -64,6 +73,7 @@ impl Mending {
         alloc: Global,
         tables: &Tables,
         origin: Vec<Kind>,
+        pairs: Pairs,
         copy: Vec<Kind>,
     ) -> Result<Mending, AllocError>
         ensures parse { IfOk result (HasParse tables.now) }
@@ -74,6 +84,7 @@ impl Mending {
         let parse = Parse::whole(alloc, tables, &mut store, &Listed { kinds: &copy })?;
         Ok(Mending {
             origin,
+            pairs,
             copy,
             store,
             parse,
@@ -82,11 +93,16 @@ impl Mending {
     }
 
     /// The copy before anything is mended.
-    fn unmended(alloc: Global, tables: &Tables, origin: Vec<Kind>) -> Result<Mending, AllocError>
+    fn unmended(
+        alloc: Global,
+        tables: &Tables,
+        origin: Vec<Kind>,
+        pairs: Pairs,
+    ) -> Result<Mending, AllocError>
         ensures { IfOk result (IsMendingOf tables.now origin.items) }
     {
         let copy = Vec::from_slice(alloc, &origin)?;
-        Mending::with_copy(alloc, tables, origin, copy)
+        Mending::with_copy(alloc, tables, origin, pairs, copy)
     }
 
     /// Puts kinds in the place of those from number `from` up to number `to`.

@@ -10,7 +10,7 @@ use crate::repair::Repair;
 use crate::seam::Seam;
 use crate::walk::{CAREFUL, MOST_FAULTS, Start, Step, Walk};
 use definitions::Kind;
-use remedies::{Balance, Change, LOOK, Rank};
+use remedies::{Balance, Change, Guide, LEAD, LOOK, Rank};
 use states::Pile;
 use std::alloc::{AllocError, Global};
 use tables::Tables;
@@ -98,13 +98,16 @@ impl Mending {
         let kept = self.kept(edit, count);
         let last = Seam::behind_all(self.first(kept));
         let from = match self.repairs.get(kept) {
-            Some(repair) => edit.from.min(repair.from),
+            Some(repair) => edit
+                .from
+                .min(fault_of(repair))
+                .min(repair.from.saturating_add(LEAD)),
             None => edit.from,
         };
         Plan {
             edit,
             kept,
-            start: last.up_to(from.max(last.kind)),
+            start: last.up_to(from.saturating_sub(LEAD).max(last.kind)),
             behind: self.first_behind(edit, kept),
         }
     }
@@ -154,10 +157,20 @@ impl Mending {
             done: Seam::behind_all(kept),
             repairs: plan.kept,
             balance: *balance,
+            last: self.kind_before(plan.start.copy),
         }))
     }
 
-    /// Passes through what an edit changes. None where that can't be told.
+    /// The kind of the copy before a number; none at the beginning.
+    fn kind_before(&self, number: usize) -> Option<Kind> {
+        match number.checked_sub(1) {
+            Some(before) => self.copy.get(before).copied(),
+            None => None,
+        }
+    }
+
+    /// Passes through what an edit changes that leaves the pairs as they are. None where that
+    /// can't be told.
     pub(crate) fn pass<'a>(
         &'a self,
         alloc: Global,
@@ -176,12 +189,17 @@ impl Mending {
         let Some(start) = self.start(alloc, ranks, kinds, plan, &balances)? else {
             return Ok(None);
         };
+        let guide = Guide {
+            ranks,
+            pairs: &self.pairs,
+            balance: start.balance,
+        };
         let mut pass = Pass {
             alloc,
             tables,
             before: self,
             balances,
-            walk: Walk::new(alloc, ranks, kinds, base, start)?,
+            walk: Walk::new(alloc, guide, kinds, base, start)?,
             plan,
             behind: plan.behind,
             is_sure: false,
@@ -232,17 +250,29 @@ impl Pass<'_> {
     fn are_alike(&self) -> bool {
         let count = self.before.repairs.len().saturating_sub(self.behind);
         let is_even = match self.balances.get(self.behind) {
-            Some(balance) => *balance == self.walk.balance,
+            Some(balance) => *balance == self.walk.guide.balance,
             None => false,
         };
         is_even && are_alike(self.behind, self.walk.number(), count)
+    }
+
+    /// The number of the first kind behind all that has changed.
+    fn changed(&self) -> usize {
+        let edit = self.plan.edit;
+        let given_up = edit.shifted(Seam::behind_all(self.before.first(self.behind)).kind);
+        edit.new.max(given_up).max(self.walk.done.kind)
+    }
+
+    /// Whether nothing has changed where the changes of a repair may begin, nor right before.
+    fn is_clear(&self, repair: &Repair) -> bool {
+        self.changed().saturating_add(LEAD) < self.plan.edit.shifted(fault_of(repair))
     }
 
     /// Whether a repair would be found here as it was.
     fn is_same(&self, repair: &Repair) -> Result<bool, AllocError>
         requires { HasParse self.now.tables.now self.now.before.now }
     {
-        if is_gap(repair) || !self.are_alike() {
+        if is_gap(repair) || !self.are_alike() || !self.is_clear(repair) {
             return Ok(false);
         }
         let states = self
@@ -278,14 +308,11 @@ impl Pass<'_> {
 
     /// Whether enough kinds have gone on so that the rest may be as it was.
     fn is_enough(&self) -> bool {
-        let edit = self.plan.edit;
-        let given_up = edit.shifted(Seam::behind_all(self.before.first(self.behind)).kind);
         let may_stay = match self.before.repairs.get(self.behind) {
             Some(repair) => !is_gap(repair) && self.are_alike(),
             None => true,
         };
-        let changed = edit.new.max(given_up).max(self.walk.done.kind);
-        may_stay && changed.saturating_add(ENOUGH) <= self.walk.next
+        may_stay && self.changed().saturating_add(ENOUGH) <= self.walk.next
     }
 
     /// Goes on up to where the copy goes on as it was, or to the end. Whether it came there.

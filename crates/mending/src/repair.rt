@@ -10,13 +10,13 @@ pub struct Repair {
     pub fault: usize,
     /// What could have stood there: the token rules in file order, and then the end.
     pub expected: Vec<Option<usize>>,
-    /// The number of the kind from which on there are changes: the fault's, or an earlier one
-    /// where kinds are left out up to where something begins anew.
+    /// The number of the kind from which on there are changes: one of the last before the fault,
+    /// or an earlier one where kinds are left out up to where something begins anew.
     pub at: usize,
     /// The number of the same kind in what is mended.
     pub from: usize,
     /// What is done from there on.
     pub changes: Vec<Change>,
-    /// What would mend it as cheaply, from the fault on.
+    /// What would mend it as cheaply, from the same kind on.
     pub others: Vec<Vec<Change>>,
 }

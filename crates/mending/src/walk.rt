@@ -2,11 +2,11 @@
 
 ghost use Rattle.std.specs.Prelude.{◌≡◌, IfOk};
 
-use crate::balances::{balance_of, changed_by};
+use crate::balances::changed_by;
 use crate::repair::Repair;
 use crate::seam::Seam;
 use definitions::Kind;
-use remedies::{Balance, Change, Fault, Rank, Remedy};
+use remedies::{Balance, Change, Fault, Guide, LEAD, Remedy};
 use states::Pile;
 use std::alloc::{AllocError, Global};
 use tables::{Expected, Tables};
@@ -69,27 +69,34 @@ pub(crate) struct Start {
     pub(crate) repairs: usize,
     /// The balance of the copy up to there and the kinds from there on.
     pub(crate) balance: Balance,
+    /// The kind of the copy before it.
+    pub(crate) last: Option<Kind>,
 }
 
 /// What the kinds and the copy have on the way.
 #[derive(Drop)]
 pub(crate) struct Walk<'a> {
     alloc: Global,
-    ranks: &'a [Rank],
+    /// Its balance is that of the copy so far and the kinds from there on.
+    pub(crate) guide: Guide<'a>,
     /// The kinds that are mended.
     kinds: &'a [Kind],
     /// The stack where the way begins.
     base: Pile<'a>,
     /// The number in the copy of the kind there.
     at: usize,
+    /// The kind of the copy before it.
+    last: Option<Kind>,
+    /// A stack on the way.
+    early: Pile<'a>,
+    /// How many kinds of the copy from where the way begins on lead to it.
+    read: usize,
     /// The stack now.
     pub(crate) pile: Pile<'a>,
     /// The kinds of the copy from there on.
     pub(crate) made: Vec<Kind>,
     /// The number of the next kind that is mended.
     pub(crate) next: usize,
-    /// The balance of the copy so far and the kinds from there on.
-    pub(crate) balance: Balance,
     /// The end of the last repair.
     pub(crate) done: Seam,
     /// How many repairs are made before.
@@ -101,21 +108,26 @@ impl<'a> Walk<'a> {
     /// The way from a place on, where there is this stack.
     pub(crate) fn new(
         alloc: Global,
-        ranks: &'a [Rank],
+        guide: Guide<'a>,
         kinds: &'a [Kind],
         base: Pile<'a>,
         start: Start,
     ) -> Result<Walk<'a>, AllocError> {
         Ok(Walk {
             alloc,
-            ranks,
+            guide: Guide {
+                balance: start.balance,
+                ..guide
+            },
             kinds,
             pile: base.copy(alloc)?,
+            early: base.copy(alloc)?,
             base,
             at: start.place.copy,
+            last: start.last,
+            read: 0,
             made: Vec::new(alloc),
             next: start.place.kind,
-            balance: start.balance,
             done: start.done,
             before: start.repairs,
             repairs: Vec::new(alloc),
@@ -142,14 +154,19 @@ impl<'a> Walk<'a> {
         Ok(true)
     }
 
-    /// Reads the kinds of the copy from where the way begins on.
-    fn read_again(&mut self) -> Result<bool, AllocError> {
-        self.pile = self.base.copy(self.alloc)?;
-        for kind in &self.made {
-            if !self.pile.read(*kind)? {
+    /// Makes the stack on the way that behind the first kinds of the copy, so many from where the
+    /// way begins on. Whether these go on.
+    fn read_up_to(&mut self, count: usize) -> Result<bool, AllocError> {
+        if count < self.read {
+            self.early = self.base.copy(self.alloc)?;
+            self.read = 0;
+        }
+        for kind in self.made.get(self.read..count).unwrap_or(&[]) {
+            if !self.early.read(*kind)? {
                 return Ok(false);
             }
         }
+        self.read = count;
         Ok(true)
     }
 
@@ -164,9 +181,11 @@ impl<'a> Walk<'a> {
         ) else {
             return Ok(false);
         };
+        let goes_on = self.read_up_to(left)?;
+        self.pile = self.early.copy(self.alloc)?;
         self.made.truncate(left);
         self.next = next;
-        self.read_again()
+        Ok(goes_on)
     }
 
     /// Makes a change. Whether some sentence goes on with it.
@@ -197,19 +216,35 @@ impl<'a> Walk<'a> {
         Ok(true)
     }
 
-    /// What mends the fault that is here, which has this number in the copy.
-    fn remedy(&self, fault: usize) -> Result<Option<Remedy>, AllocError> {
-        let Some(kinds) = self.kinds.get(self.next..) else {
-            return Ok(None);
-        };
+    /// How many kinds before here changes may begin.
+    fn lead(&self) -> usize {
+        let unchanged = self.next.saturating_sub(self.done.kind);
+        LEAD.min(unchanged).min(self.made.len())
+    }
+
+    /// What mends the fault that is here, which has this number in the copy. Its changes may begin
+    /// so many kinds before it, where `early` is the stack.
+    fn remedy(&self, fault: usize, lead: usize) -> Result<Option<Remedy>, AllocError> {
+        let left = self.made.len().saturating_sub(lead);
+        let first = self.next.saturating_sub(lead);
         Fault {
             pile: &self.pile,
-            kinds,
-            balance: self.balance,
+            early: &self.early,
+            lead,
+            last: self.last_of(left),
+            kinds: self.kinds.get(first..).unwrap_or(&[]),
             most: fault.saturating_sub(self.done.copy),
             moves: moves_at(self.number()),
         }
-        .remedy(self.alloc, self.ranks)
+        .remedy(self.alloc, self.guide)
+    }
+
+    /// The kind of the copy before number `count` from where the way begins on.
+    fn last_of(&self, count: usize) -> Option<Kind> {
+        match count.checked_sub(1) {
+            Some(number) => self.made.get(number).copied(),
+            None => self.last,
+        }
     }
 
     /// Mends the fault that is here.
@@ -217,8 +252,12 @@ impl<'a> Walk<'a> {
         if MOST_FAULTS <= self.number() {
             return Ok(Step::Stuck);
         }
-        let fault = self.at.saturating_add(self.made.len());
-        match self.remedy(fault)? {
+        let (lead, made) = (self.lead(), self.made.len());
+        if !self.read_up_to(made.saturating_sub(lead))? {
+            return Ok(Step::Stuck);
+        }
+        let fault = self.at.saturating_add(made);
+        match self.remedy(fault, lead)? {
             Some(remedy) => self.apply(fault, remedy),
             None => Ok(Step::Stuck),
         }
@@ -234,8 +273,8 @@ impl<'a> Walk<'a> {
         if !self.make(&remedy.changes)? {
             return Ok(Step::Stuck);
         }
-        let changed = changed_by(self.ranks, self.kinds, from, &remedy.changes);
-        self.balance = self.balance.with(changed);
+        let changed = changed_by(self.guide.ranks, self.kinds, from, &remedy.changes);
+        self.guide.balance = self.guide.balance.with(changed);
         self.done = Seam {
             copy: self.at.saturating_add(self.made.len()),
             kind: self.next,
@@ -284,7 +323,7 @@ pub(crate) struct Mended {
 pub(crate) fn mend_all(
     alloc: Global,
     tables: &Tables,
-    ranks: &[Rank],
+    guide: Guide<'_>,
     kinds: &[Kind],
 ) -> Result<Mended, AllocError> {
     let begin = Seam { copy: 0, kind: 0 };
@@ -292,10 +331,11 @@ pub(crate) fn mend_all(
         place: begin,
         done: begin,
         repairs: 0,
-        balance: balance_of(ranks, kinds),
+        balance: guide.balance,
+        last: None,
     };
     let base = Pile::new(alloc, tables)?;
-    let mut walk = Walk::new(alloc, ranks, kinds, base, start)?;
+    let mut walk = Walk::new(alloc, guide, kinds, base, start)?;
     for _ in 0..walk.most_steps() {
         match walk.step()? {
             Step::Ended | Step::Stuck => break,

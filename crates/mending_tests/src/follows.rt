@@ -4,7 +4,7 @@ ghost use Rattle.std.specs.Prelude.{List};
 ghost use Rattle.definitions.specs.declared.Kind.{Kind as TokenKind};
 ghost use Rattle.mending.specs.Mendings.{IsMendingOf};
 
-use crate::ranks::{CLOSING, CURLY, NAME, ROUND, SIGN, SQUARE, WORD, closing, opening};
+use crate::ranks::{CLOSING, CURLY, NAME, ROUND, SIGN, SQUARE, WORD, begun, closing, opening};
 use definitions::Kind;
 use grammar::Grammar;
 use mending::{Balance, Change, Listed, Mending, Rank};
@@ -299,7 +299,11 @@ fn beginning_with(rt: &impl Abort, alloc: Global, kinds: &[Kind], rule: usize) -
 /// The copy has one repair, of these changes.
 fn assert_changed(rt: &impl Abort, mending: &Mending, changes: &[Change]) {
     assert!(rt; mending.repairs().len() == 1);
-    assert!(rt; mending.repairs()[0].changes.as_slice() == changes);
+    assert!(rt;
+        begun(&mending.repairs()[0].changes) == changes,
+        "{:?}",
+        mending.repairs()
+    );
 }
 
 #[test]
@@ -328,9 +332,17 @@ fn a_repair_far_behind_an_edit_is_found_anew_on_another_stack(rt: HostRuntime) {
     assert_changed(&rt, &mending, &[Change::PutIn(3), Change::PutIn(4)]);
 }
 
-/// `if` and a name, and then so many statements of a name.
+/// Statements by which braces are no strangers to names, `if` and a name, and then so many
+/// statements of a name.
 fn headless(rt: &impl Abort, alloc: Global, count: usize) -> Vec<Kind> {
     let mut kinds = Vec::new(alloc);
+    for _ in 0..2 {
+        add(
+            rt,
+            &mut kinds,
+            &[9, 11, 4, 11, 0, 3, 11, 0, 9, 11, 4, 3, 11, 0],
+        );
+    }
     add(rt, &mut kinds, &[9, 11]);
     for _ in 0..count {
         add(rt, &mut kinds, &[11, 0]);
@@ -365,7 +377,11 @@ fn bracing(counts: bool) -> [Rank; 13] {
 /// The first repair of the copy has these changes.
 fn assert_begins(rt: &impl Abort, mending: &Mending, changes: &[Change]) {
     assert!(rt; mending.repairs().len() > 0);
-    assert!(rt; mending.repairs()[0].changes.as_slice() == changes);
+    assert!(rt;
+        begun(&mending.repairs()[0].changes) == changes,
+        "{:?}",
+        mending.repairs()[0]
+    );
 }
 
 #[test]

@@ -6,4 +6,6 @@ mod follows;
 #[cfg(test)]
 mod mendings;
 #[cfg(test)]
+mod neighbours;
+#[cfg(test)]
 mod ranks;

@@ -1,6 +1,6 @@
 //! Mended copies of worked kinds of sums. `bench/mending` has real texts.
 
-use crate::ranks::{CLOSING, NAME, OPENING, SIGN, WORD};
+use crate::ranks::{CLOSING, NAME, OPENING, SIGN, WORD, begun};
 use definitions::Kind;
 use grammar::Grammar;
 use mending::{Balance, Change, Listed, Mending, Rank};
@@ -21,6 +21,7 @@ const RP: Kind = Kind::Rule(3);
 const FIRST: Rank = Rank {
     put_in: 0,
     leave_out: 1,
+    is_dear: false,
     balance: Balance::EVEN,
 };
 
@@ -28,7 +29,8 @@ const FIRST: Rank = Rank {
 /// opening one; each is left out as any other.
 const RANKS: &[Rank] = &[NAME, FIRST, WORD, FIRST];
 
-/// Kinds, the number of the fault that is mended, how it is, and the copy.
+/// Kinds, the number of the fault that is mended, how it is from the first kind on that doesn't
+/// stay, and the copy.
 type Row<'a> = (&'a [Kind], usize, &'a [Change], &'a [Kind]);
 
 /// The kinds have one fault, which is mended so by these ranks, and the copy is whole.
@@ -43,8 +45,8 @@ fn assert_mended_by(
     let mended = Mending::whole(alloc, tables, ranks, &Listed { kinds }).expect(rt, "a mending");
     assert!(rt; mended.repairs().len() == 1);
     let repair = &mended.repairs()[0];
-    assert!(rt; (repair.fault, repair.at, repair.from) == (fault, fault, fault));
-    assert!(rt; repair.changes.as_slice() == changes);
+    assert!(rt; repair.fault == fault && repair.at <= fault && repair.from == repair.at);
+    assert!(rt; begun(&repair.changes) == changes, "{:?}", repair);
     assert!(rt; mended.kinds() == copy);
     assert!(rt; mended.tree().is_some());
 }
@@ -113,9 +115,9 @@ fn brackets_and_separators_are_left_out_last(rt: HostRuntime) {
         (
             &signs,
             (
-                &[NUM, LP, RP],
-                1,
-                &[put_in(1), Change::Keep, put_in(0)],
+                &[NUM, PLUS, LP, RP],
+                3,
+                &[put_in(0)],
                 &[NUM, PLUS, LP, NUM, RP],
             ),
         ),
@@ -128,7 +130,7 @@ fn brackets_and_separators_are_left_out_last(rt: HostRuntime) {
 
 #[test]
 fn faults_close_together_are_mended_as_one(rt: HostRuntime) {
-    let kinds = [LP, NUM, RP, RP, PLUS, RP];
+    let kinds = [LP, NUM, RP, Kind::Invalid, PLUS, Kind::Invalid];
     let changes = [Change::LeaveOut; 3];
     let copy = [LP, NUM, RP];
     let tables = sums(&rt, rt.alloc());
@@ -137,7 +139,10 @@ fn faults_close_together_are_mended_as_one(rt: HostRuntime) {
 
 #[test]
 fn what_no_few_changes_mend_is_left_out(rt: HostRuntime) {
-    let kinds = [NUM, RP, RP, RP, RP, RP, RP, PLUS, NUM, PLUS, NUM];
+    let none = Kind::Invalid;
+    let kinds = [
+        NUM, none, none, none, none, none, none, PLUS, NUM, PLUS, NUM,
+    ];
     let changes = [Change::LeaveOut; 6];
     let copy = [NUM, PLUS, NUM, PLUS, NUM];
     let tables = sums(&rt, rt.alloc());
@@ -146,8 +151,9 @@ fn what_no_few_changes_mend_is_left_out(rt: HostRuntime) {
 
 #[test]
 fn a_fault_soon_behind_costs_more_than_a_few_kinds(rt: HostRuntime) {
+    let none = Kind::Invalid;
     let kinds = [
-        NUM, RP, RP, RP, RP, RP, RP, PLUS, NUM, PLUS, RP, PLUS, NUM, PLUS, NUM,
+        NUM, none, none, none, none, none, none, PLUS, NUM, PLUS, none, PLUS, NUM, PLUS, NUM,
     ];
     let changes = [Change::LeaveOut; 10];
     let copy = [NUM, PLUS, NUM, PLUS, NUM];

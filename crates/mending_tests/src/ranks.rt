@@ -1,11 +1,18 @@
 //! The ranks of rules.
 
-use mending::{Balance, Rank};
+use mending::{Balance, Change, Rank};
+
+/// The changes from the first one on that lets no kind stay.
+pub fn begun(changes: &[Change]) -> &[Change] {
+    let first = changes.iter().position(|change| *change != Change::Keep);
+    changes.get(first.unwrap_or(0)..).unwrap_or(&[])
+}
 
 /// Those of what closes or separates.
 pub const CLOSING: Rank = Rank {
     put_in: 0,
     leave_out: 17,
+    is_dear: false,
     balance: Balance::EVEN,
 };
 
@@ -13,6 +20,7 @@ pub const CLOSING: Rank = Rank {
 pub const SIGN: Rank = Rank {
     put_in: 1,
     leave_out: 1,
+    is_dear: false,
     balance: Balance::EVEN,
 };
 
@@ -20,6 +28,7 @@ pub const SIGN: Rank = Rank {
 pub const NAME: Rank = Rank {
     put_in: 2,
     leave_out: 1,
+    is_dear: false,
     balance: Balance::EVEN,
 };
 
@@ -27,6 +36,7 @@ pub const NAME: Rank = Rank {
 pub const WORD: Rank = Rank {
     put_in: 3,
     leave_out: 1,
+    is_dear: false,
     balance: Balance::EVEN,
 };
 
@@ -34,6 +44,7 @@ pub const WORD: Rank = Rank {
 pub const OPENING: Rank = Rank {
     put_in: 4,
     leave_out: 17,
+    is_dear: false,
     balance: Balance::EVEN,
 };
 
@@ -66,6 +77,7 @@ pub fn opening(balance: Balance) -> Rank {
 /// Those of what closes these brackets.
 pub fn closing(balance: Balance) -> Rank {
     Rank {
+        is_dear: false,
         balance: Balance::EVEN.without(balance),
         ..CLOSING
     }

@@ -44,6 +44,14 @@ impl Balance {
         }
     }
 
+    /// How many brackets have no partner.
+    pub(crate) fn alone(self) -> usize {
+        let round = self.round.unsigned_abs() as usize;
+        let square = self.square.unsigned_abs() as usize;
+        let curly = self.curly.unsigned_abs() as usize;
+        round.saturating_add(square).saturating_add(curly)
+    }
+
     /// How many more brackets have no partner if the kinds of another balance are put in.
     pub(crate) fn unmatched_by(self, other: Balance) -> usize {
         let after = self.with(other);

@@ -10,6 +10,8 @@ pub struct Rank {
     pub put_in: u8,
     /// That of leaving it out.
     pub leave_out: u8,
+    /// Whether putting it in costs one change more.
+    pub is_dear: bool,
     /// The brackets that the rule's kind opens and doesn't close.
     pub balance: Balance,
 }

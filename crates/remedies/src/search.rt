@@ -1,12 +1,21 @@
-//! The search for few changes that mend a fault (Corchuelo and others 2002; Diekmann and Tratt
-//! 2020).
+//! The search for few changes that mend a fault.
+//!
+//! Each kind that is put in or left out costs one, four at most, and one more to put it in where
+//! it is dear; each kind from the first change up to the fault a half, and so do each two
+//! strangers that come to stand side by side, and each bracket of the text that has no partner;
+//! one that had a partner costs one and a half more; a fault behind the changes one, or two within
+//! 32 kinds. Of those as cheap the changes are taken with which the most kinds go on (up to 256),
+//! then those of the least ranks, then the first: leaving out, then rules in file order. Of
+//! changes that lead to the same stack only the cheapest are tried, and more changes only while
+//! the best of fewer costs more than their number.
 
 use crate::ahead::{Ahead, ENOUGH};
 use crate::balance::Balance;
 use crate::change::Change;
+use crate::guide::Guide;
 use crate::rank::Rank;
 use definitions::Kind;
-use indexmap::IndexSet;
+use indexmap::IndexMap;
 use std::alloc::{AllocError, Global};
 
 /// How many kinds may be put in or left out together.
@@ -18,14 +27,26 @@ const NEAR: usize = 32;
 /// How many kinds have to go on, where the moves run out before all changes are tried.
 const FEW: usize = 8;
 
-/// How many changes a fault costs that comes sooner, since it mostly follows from the changes.
-const SOON: usize = 2;
+/// What a change costs.
+const CHANGE: usize = 4;
 
-/// How many changes another fault costs.
-const LATER: usize = 1;
+/// What a fault costs that comes sooner, since it mostly follows from the changes.
+const SOON: usize = 2 * CHANGE;
 
-/// How many changes a bracket costs that has no partner any more.
-const UNMATCHED: usize = 2;
+/// What another fault costs.
+const LATER: usize = CHANGE;
+
+/// What a bracket costs that has no partner.
+const ALONE: usize = CHANGE / 2;
+
+/// What it costs besides if it had one.
+const UNMATCHED: usize = 2 * CHANGE - ALONE;
+
+/// What two kinds cost that come to stand side by side and do so nowhere else.
+const STRANGE: usize = CHANGE / 2;
+
+/// What it costs to begin one kind farther before the fault.
+const EARLY: usize = CHANGE / 2;
 
 /// How many places with as many changes are tried.
 const MOST_PLACES: usize = 512;
@@ -40,6 +61,7 @@ const MOST_REPAIRS: usize = 8;
 const UNRANKED: Rank = Rank {
     put_in: u8::MAX,
     leave_out: 1,
+    is_dear: false,
     balance: Balance::EVEN,
 };
 
@@ -60,6 +82,10 @@ struct Place {
     rank: usize,
     /// What these add to the balance.
     balance: Balance,
+    /// What the changes cost but for their number, the balance, and what follows the last one.
+    extra: usize,
+    /// The kind right before it in the copy.
+    last: Option<Kind>,
 }
 
 /// How good a place is.
@@ -67,7 +93,7 @@ struct Place {
 struct Rating {
     /// How many kinds are put in and left out.
     changes: usize,
-    /// These, and what a fault behind them and brackets without a partner cost.
+    /// What these cost, and a fault behind them, brackets without a partner and strangers.
     cost: usize,
     /// How many of the kinds ahead are passed there.
     passed: usize,
@@ -100,29 +126,29 @@ impl Rating {
 #[derive(Drop)]
 pub struct Search<'a> {
     alloc: Global,
-    pub ahead: Ahead<'a>,
-    /// The rank of each token rule.
-    ranks: &'a [Rank],
-    /// The balance of all kinds.
-    balance: Balance,
+    ahead: Ahead<'a>,
+    guide: Guide<'a>,
+    /// How many kinds ahead come before the fault.
+    lead: usize,
     places: Vec<Place>,
-    /// How many places there may be.
-    most: usize,
-    /// The stack of each place, and how many kinds are passed there.
-    seen: IndexSet<(usize, usize)>,
+    /// The number of the first place to which as many changes lead as are tried now.
+    first: usize,
+    /// The number of the place with a stack where so many kinds are passed.
+    seen: IndexMap<(usize, usize), usize>,
     /// The places from where enough kinds go on.
     found: Vec<Rating>,
     best: Option<Rating>,
 }
 
 impl<'a> Search<'a> {
-    /// A search that begins with this stack.
+    /// A search that begins with this stack, so many kinds before the fault, behind this kind.
     pub fn new(
         alloc: Global,
         ahead: Ahead<'a>,
-        ranks: &'a [Rank],
-        balance: Balance,
+        guide: Guide<'a>,
+        lead: usize,
         stack: usize,
+        last: Option<Kind>,
     ) -> Result<Search<'a>, AllocError> {
         let mut places = Vec::new(alloc);
         places.push(Place {
@@ -133,33 +159,69 @@ impl<'a> Search<'a> {
             change: Change::Keep,
             rank: 0,
             balance: Balance::EVEN,
+            extra: 0,
+            last,
         })?;
         Ok(Search {
             alloc,
             ahead,
-            ranks,
-            balance,
+            guide,
+            lead,
             places,
-            most: 0,
-            seen: IndexSet::new(alloc),
+            first: 0,
+            seen: IndexMap::new(alloc),
             found: Vec::new(alloc),
             best: None,
         })
     }
 
-    /// Adds a place, unless the same is there, reached by no more changes.
+    /// Adds a place, unless the same is there, reached by fewer changes or as cheaply.
     fn add(&mut self, place: Place) -> Result<(), AllocError> {
-        if self.places.len() < self.most && self.seen.insert((place.stack, place.passed))? {
-            self.places.push(place)?;
+        let number = self.places.len();
+        match self.seen.get(&(place.stack, place.passed)).copied() {
+            Some(same) => self.take_cheaper(same, place),
+            None if number < self.first.saturating_add(MOST_PLACES) => {
+                self.seen.insert((place.stack, place.passed), number)?;
+                self.places.push(place)?;
+            }
+            None => {}
         }
         Ok(())
+    }
+
+    /// Whether a place costs less than the one of a number, or as much by a lower rank.
+    fn is_cheaper(&self, place: Place, number: usize) -> bool {
+        let Some(other) = self.places.get(number).copied() else {
+            return false;
+        };
+        let (one, other_price) = (self.price(place), self.price(other));
+        one < other_price || one == other_price && place.rank < other.rank
+    }
+
+    /// Takes a place for the same one of this number, if as many changes lead to it more cheaply.
+    fn take_cheaper(&mut self, number: usize, place: Place) {
+        if number < self.first || !self.is_cheaper(place, number) {
+            return;
+        }
+        if let Some(same) = self.places.get_mut(number) {
+            *same = place;
+        }
     }
 
     /// The rank of a kind.
     fn rank(&self, kind: Kind) -> Rank {
         match kind {
-            Kind::Rule(rule) => self.ranks.get(rule).copied().unwrap_or(UNRANKED),
+            Kind::Rule(rule) => self.guide.ranks.get(rule).copied().unwrap_or(UNRANKED),
             Kind::Invalid => UNRANKED,
+        }
+    }
+
+    /// What it costs that this kind stands behind a place, before which there is a change.
+    fn strange(&self, place: Place, kind: Option<Kind>) -> usize {
+        if self.guide.pairs.are_strangers(place.last, kind) {
+            STRANGE
+        } else {
+            0
         }
     }
 
@@ -185,11 +247,15 @@ impl<'a> Search<'a> {
             return Ok(());
         };
         let rank = self.rank(kind);
+        let dear = if rank.is_dear { CHANGE } else { 0 };
+        let strange = self.strange(here, Some(kind));
         self.add(Place {
             stack,
             change: Change::PutIn(rule),
             rank: here.rank.saturating_add(rank.put_in as usize),
             balance: here.balance.with(rank.balance),
+            extra: here.extra.saturating_add(dear).saturating_add(strange),
+            last: Some(kind),
             ..here
         })
     }
@@ -216,14 +282,49 @@ impl<'a> Search<'a> {
         };
         for kept in 0..ENOUGH {
             here.kept = kept;
+            if number == 0 {
+                here.extra = self.lead.saturating_sub(kept).saturating_mul(EARLY);
+            }
             self.change(here)?;
             let Some(stack) = self.ahead.read(here.stack, here.passed)? else {
                 return Ok(());
             };
+            let kind = self.ahead.kinds.get(here.passed).copied();
+            if kept == 0 && number != 0 {
+                here.extra = here.extra.saturating_add(self.strange(here, kind));
+            }
+            here.last = kind;
             here.stack = stack;
             here.passed = here.passed.saturating_add(1);
         }
         Ok(())
+    }
+
+    /// What a place costs but for the number of changes that lead to it, and a fault behind it.
+    fn price(&self, place: Place) -> usize {
+        let next = self.ahead.kinds.get(place.passed).copied();
+        let unmatched = self.guide.balance.unmatched_by(place.balance);
+        let alone = self.guide.balance.with(place.balance).alone();
+        place
+            .extra
+            .saturating_add(self.strange(place, next))
+            .saturating_add(unmatched.saturating_mul(UNMATCHED))
+            .saturating_add(alone.saturating_mul(ALONE))
+    }
+
+    /// What a place costs to which so many changes lead, and with which so many kinds go on.
+    fn cost(&self, place: Place, changes: usize, reach: usize) -> usize {
+        let more = if reach == usize::MAX {
+            0
+        } else if place.passed.saturating_add(NEAR) <= reach {
+            LATER
+        } else {
+            SOON
+        };
+        changes
+            .saturating_mul(CHANGE)
+            .saturating_add(more)
+            .saturating_add(self.price(place))
     }
 
     /// Rates a place, to which so many changes lead, if enough kinds go on from there.
@@ -235,19 +336,9 @@ impl<'a> Search<'a> {
         if !self.ahead.is_enough(place.passed, reach) {
             return Ok(());
         }
-        let more = if reach == usize::MAX {
-            0
-        } else if place.passed.saturating_add(NEAR) <= reach {
-            LATER
-        } else {
-            SOON
-        };
-        let unmatched = self.balance.unmatched_by(place.balance);
         let rating = Rating {
             changes,
-            cost: changes
-                .saturating_add(more)
-                .saturating_add(unmatched.saturating_mul(UNMATCHED)),
+            cost: self.cost(place, changes, reach),
             passed: place.passed,
             reach,
             rank: place.rank,
@@ -276,7 +367,7 @@ impl<'a> Search<'a> {
     /// `from` on, of which those of low ranks come first.
     fn go_on(&mut self, from: usize, changes: usize) -> Result<(), AllocError> {
         let to = self.places.len();
-        self.most = to.saturating_add(MOST_PLACES);
+        self.first = to;
         for rank in 0..=MOST_RANK {
             self.expand_rank(from, to, rank)?;
         }
@@ -337,17 +428,19 @@ impl<'a> Search<'a> {
     }
 
     /// The cheapest changes after which enough kinds go on, where a fault that comes behind costs
-    /// too, and so does a bracket that has no partner any more; of these the ones with which the
-    /// most kinds go on, then those of the lowest sum of ranks, of what they put in and leave out,
-    /// and then the first ones, where leaving out comes before putting in, and that in file order.
+    /// too, and so do a bracket without a partner and kinds that stand side by side nowhere else;
+    /// of these the ones with which the most kinds go on, then those of the lowest sum of ranks,
+    /// of what they put in and leave out, and then the first ones, where leaving out comes before
+    /// putting in, and that in file order.
     /// They come first, and behind them others of as many changes, the best first, eight in all.
     /// None where none are found, or where the moves run out before all are tried and a fault
     /// comes right behind the best ones.
     pub fn run(&mut self) -> Result<Option<Vec<Vec<Change>>>, AllocError> {
         let mut from = 0;
+        let least = self.guide.balance.alone().saturating_mul(ALONE);
         for changes in 1..=MOST_CHANGES {
             if let Some(best) = self.best
-                && best.cost <= changes
+                && best.cost <= changes.saturating_mul(CHANGE).saturating_add(least)
             {
                 break;
             }

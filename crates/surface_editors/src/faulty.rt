@@ -126,13 +126,14 @@ pub fn change(change: Change) -> Option<usize> {
 }
 
 /// `Rank`.
-pub fn rank(rank: Rank) -> (u8, u8, Balance) {
+pub fn rank(rank: Rank) -> (u8, u8, bool, Balance) {
     let Rank {
         put_in,
         leave_out,
+        is_dear,
         balance,
     } = rank;
-    (put_in, leave_out, balance)
+    (put_in, leave_out, is_dear, balance)
 }
 
 /// `Balance`.

@@ -4,7 +4,7 @@ use definitions::Kind;
 use docs::{Doc, Language, Unit};
 use faults::{About, behind, mended};
 use mending::{Listed, Mending, Rank};
-use remedies::{Balance, Fault};
+use remedies::{Balance, Fault, Guide, Pairs};
 use settings::{RuleText, Settings};
 use states::Pile;
 use std::alloc::Global;
@@ -61,15 +61,22 @@ pub fn use_remedies(
     ranks: &[Rank],
     pile: &Pile<'_>,
 ) -> Option<()> {
-    let balance = Balance::EVEN;
+    let pairs = Pairs::of(alloc, ranks.len(), &[]).ok()?;
     let fault = Fault {
         pile,
+        early: pile,
+        lead: 0,
+        last: None,
         kinds: &[],
-        balance,
         most: 2,
         moves: 2048,
     };
-    let remedy = fault.remedy(alloc, ranks).ok()??;
+    let guide = Guide {
+        ranks,
+        pairs: &pairs,
+        balance: Balance::EVEN,
+    };
+    let remedy = fault.remedy(alloc, guide).ok()??;
     println!(rt; "{:?}", remedy.changes).ok()
     // [PutIn(3)]
 }
