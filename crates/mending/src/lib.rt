@@ -24,8 +24,8 @@
 //! let listed = Listed { kinds: &kinds };
 //! let mended = Mending::whole(alloc, tables, ranks, &listed).ok()?;
 //! let repair = mended.repairs().first()?;
-//! println!(rt; "at {}: {:?}", repair.fault, repair.changes).ok()
-//! // at 2: [PutIn(3)]
+//! println!(rt; "from {} on: {:?}", repair.at, repair.changes).ok()
+//! // from 0 on: [Keep, Keep, PutIn(3)]
 //! ```
 #![tactic(auto)]
 
