@@ -154,8 +154,8 @@ impl<'a> Walk<'a> {
         Ok(true)
     }
 
-    /// Makes the stack on the way that behind the first kinds of the copy, so many from where the
-    /// way begins on. Whether these go on.
+    /// Makes `early` the stack behind so many kinds of the copy from where the way begins on.
+    /// Whether these go on.
     fn read_up_to(&mut self, count: usize) -> Result<bool, AllocError> {
         if count < self.read {
             self.early = self.base.copy(self.alloc)?;
